@@ -1,0 +1,231 @@
+-- Headers that were written are read back, field by field; and a frame that is not refused is its headers, written again, and its zone.
+-- Assumes nothing.
+use mathlib.Core.Path.{_≡_, refl, sym, ap, _∙_}
+use mathlib.Core.List.{List, _++_, append-assoc}
+use mathlib.Core.Bool.{true}
+use Prim.Native.Nat.{ℕ, _+_, _%_, _^_, _≤_, _<_}
+use native.Mathlib.Nat.{mod-eq-of-lt, mod-one}
+use native.Mathlib.Omega.{arith}
+use lib.Dec.{lit<}
+use lib.ListN.{length, take, drop, length-append, length-drop, take-append-drop}
+use lib.Seq.{take-at, drop-at, take-add, take-all}
+use Rattle.octets.specs.Basics.{field, number, octets, read, write, first}
+use Rattle.octets.proofs.Fields.{placed-read, placed-above, placed-below, placed-lt, field-lt, top-clear, agree-on, foot-read, foot-above, foot-lt, foot-only}
+use Rattle.octets.proofs.Numbers.{Octets, number-octets, octets-again, run-lt}
+use Rattle.octets.proofs.Written.{length-octets}
+use Rattle.frames.specs.Link.{head-word, headers, primary, zone-head, version-place, spacecraft-place, channel-place, count-place, replay-place, spare-place}
+use Rattle.frames.specs.Frame.{in-range, frame-length, frame-rows, zone-of, version, spacecraft, channel, count, replay, spare, zone-spare, zone-spare-place, pointer, pointer-place, pointer-word, head}
+use Rattle.frames.specs.declared.Link.{Link}
+use Rattle.frames.specs.declared.Settings.{Settings}
+use Rattle.frames.proofs.Rows.{sound-frame}
+use Rattle.frames.proofs.Settled.{Settled, settled}
+
+-- the word of the frame's own header, as its fields are put in one after the other
+module _ (l : Link) (c r : ℕ) where
+  abbrev flagged : ℕ
+  flagged = write replay-place r 0
+
+  abbrev counted : ℕ
+  counted = write count-place c flagged
+
+  abbrev channelled : ℕ
+  channelled = write channel-place (l .channel) counted
+
+  abbrev crafted : ℕ
+  crafted = write spacecraft-place (l .spacecraft) channelled
+
+  flagged-lt : flagged < 2 ^ 64
+  flagged-lt = placed-lt 0 7 1 r (lit< tt) (omega arith)
+
+  counted-lt : counted < 2 ^ 64
+  counted-lt = placed-lt flagged 8 24 c flagged-lt (omega arith)
+
+  channelled-lt : channelled < 2 ^ 64
+  channelled-lt = placed-lt counted 32 6 (l .channel) counted-lt (omega arith)
+
+  crafted-lt : crafted < 2 ^ 64
+  crafted-lt = placed-lt channelled 38 8 (l .spacecraft) channelled-lt (omega arith)
+
+  -- a field below the ones put in last is that of the word before them
+  under-version : (place width : ℕ) → place + width ≤ 46 → field (head-word l c r) place width ≡ field crafted place width
+  unfolding head-word
+  under-version place width h = placed-below crafted 46 2 1 crafted-lt (omega arith) place width h
+
+  under-craft : (place width : ℕ) → place + width ≤ 38 → field (head-word l c r) place width ≡ field channelled place width
+  under-craft place width h =
+      under-version place width (omega arith) ∙ placed-below channelled 38 8 (l .spacecraft) channelled-lt (omega arith) place width h
+
+  under-channel : (place width : ℕ) → place + width ≤ 32 → field (head-word l c r) place width ≡ field counted place width
+  under-channel place width h =
+      under-craft place width (omega arith) ∙ placed-below counted 32 6 (l .channel) counted-lt (omega arith) place width h
+
+  under-count : (place width : ℕ) → place + width ≤ 8 → field (head-word l c r) place width ≡ field flagged place width
+  under-count place width h =
+      under-channel place width (omega arith) ∙ placed-below flagged 8 24 c flagged-lt (omega arith) place width h
+
+  pub version-written : read version-place (head-word l c r) ≡ 1
+  unfolding head-word
+  version-written = placed-read crafted 46 2 1 crafted-lt (omega arith)
+
+  pub spacecraft-written : l .spacecraft ≤ 255 → read spacecraft-place (head-word l c r) ≡ l .spacecraft
+  spacecraft-written h =
+      under-version 38 8 (omega arith)
+      ∙ placed-read channelled 38 8 (l .spacecraft) channelled-lt (omega arith)
+      ∙ mod-eq-of-lt (omega arith)
+
+  pub channel-written : l .channel ≤ 62 → read channel-place (head-word l c r) ≡ l .channel
+  channel-written h =
+      under-craft 32 6 (omega arith)
+      ∙ placed-read counted 32 6 (l .channel) counted-lt (omega arith)
+      ∙ mod-eq-of-lt (omega arith)
+
+  pub count-written : c < 2 ^ 24 → read count-place (head-word l c r) ≡ c
+  count-written h =
+      under-channel 8 24 (omega arith) ∙ placed-read flagged 8 24 c flagged-lt (omega arith) ∙ mod-eq-of-lt h
+
+  pub replay-written : r < 2 → read replay-place (head-word l c r) ≡ r
+  replay-written h = under-count 7 1 (omega arith) ∙ placed-read 0 7 1 r (lit< tt) (omega arith) ∙ mod-eq-of-lt h
+
+  pub spare-written : read spare-place (head-word l c r) ≡ 0
+  unfolding field
+  spare-written = under-count 0 7 (omega arith) ∙ placed-below 0 7 1 r (lit< tt) (omega arith) 0 7 (omega arith)
+
+  -- nothing stands above the six octets
+  above-all : field (head-word l c r) 48 16 ≡ 0
+  unfolding head-word field
+  above-all =
+      placed-above crafted 46 2 1 crafted-lt (omega arith) 48 16 (omega arith)
+      ∙ placed-above channelled 38 8 (l .spacecraft) channelled-lt (omega arith) 48 16 (omega arith)
+      ∙ placed-above counted 32 6 (l .channel) counted-lt (omega arith) 48 16 (omega arith)
+      ∙ placed-above flagged 8 24 c flagged-lt (omega arith) 48 16 (omega arith)
+      ∙ placed-above 0 7 1 r (lit< tt) (omega arith) 48 16 (omega arith)
+
+  head-word-word : head-word l c r < 2 ^ 64
+  unfolding head-word
+  head-word-word = placed-lt crafted 46 2 1 crafted-lt (omega arith)
+
+  pub head-word-lt : head-word l c r < 2 ^ 48
+  head-word-lt = top-clear 48 (head-word l c r) (omega arith) head-word-word above-all
+
+pub length-headers : (l : Link) (c r z : ℕ) → length (headers l c r z) ≡ 8
+unfolding headers
+length-headers l c r z = length-append (octets 6 (head-word l c r)) (octets 2 z) ∙ simp length-octets
+
+-- a frame that begins with written headers
+module _ (l : Link) (c r z : ℕ) (f : List ℕ) (headed : take 8 f ≡ headers l c r z) where
+  as-written : f ≡ octets 6 (head-word l c r) ++ (octets 2 z ++ drop 8 f)
+  unfolding headers
+  as-written =
+      sym (take-append-drop 8 f)
+      ∙ ap (λ (h : List ℕ). h ++ drop 8 f) headed
+      ∙ append-assoc (octets 6 (head-word l c r)) (octets 2 z) (drop 8 f)
+
+  pub primary-written : primary l f ≡ head-word l c r
+  unfolding primary
+  primary-written =
+      ap (λ (g : List ℕ). number (take 6 g)) as-written
+      ∙ ap number (take-at (octets 6 (head-word l c r)) _ 6 (length-octets 6 _))
+      ∙ number-octets 6 (head-word l c r) (head-word-lt l c r)
+
+  pub zone-head-written : z < 2 ^ 16 → zone-head l f ≡ z
+  unfolding zone-head
+  zone-head-written h =
+      ap (λ (g : List ℕ). number (take 2 (drop 6 g))) as-written
+      ∙ ap (λ (g : List ℕ). number (take 2 g)) (drop-at (octets 6 (head-word l c r)) _ 6 (length-octets 6 _))
+      ∙ ap number (take-at (octets 2 z) (drop 8 f) 2 (length-octets 2 z))
+      ∙ number-octets 2 z h
+
+-- ---- the other way round
+
+-- a word of six octets whose fields are those of a header is that header's word
+pub word-by-fields : (l : Link) (w : ℕ) → w < 2 ^ 48 → read version-place w ≡ 1 → read spacecraft-place w ≡ l .spacecraft
+    → read channel-place w ≡ l .channel → read spare-place w ≡ 0 → l .spacecraft ≤ 255 → l .channel ≤ 62
+    → w ≡ head-word l (read count-place w) (read replay-place w)
+word-by-fields l w h v sc ch sp scl chl =
+    let c : ℕ = read count-place w in
+    let r : ℕ = read replay-place w in
+    let b : ℕ = head-word l c r in
+    let none : w % 2 ^ 0 ≡ b % 2 ^ 0 = mod-one w ∙ sym (mod-one b) in
+    let spare : w % 2 ^ 7 ≡ b % 2 ^ 7 = agree-on w b 0 7 none (sp ∙ sym (spare-written l c r)) in
+    let replay : w % 2 ^ 8 ≡ b % 2 ^ 8 = agree-on w b 7 1 spare (sym (replay-written l c r (field-lt w 7 1))) in
+    let count : w % 2 ^ 32 ≡ b % 2 ^ 32 = agree-on w b 8 24 replay (sym (count-written l c r (field-lt w 8 24))) in
+    let channel : w % 2 ^ 38 ≡ b % 2 ^ 38 = agree-on w b 32 6 count (ch ∙ sym (channel-written l c r chl)) in
+    let craft : w % 2 ^ 46 ≡ b % 2 ^ 46 = agree-on w b 38 8 channel (sc ∙ sym (spacecraft-written l c r scl)) in
+    let version : w % 2 ^ 48 ≡ b % 2 ^ 48 = agree-on w b 46 2 craft (v ∙ sym (version-written l c r)) in
+    sym (mod-eq-of-lt h) ∙ version ∙ mod-eq-of-lt (head-word-lt l c r)
+
+primary-lt : (l : Link) (f : List ℕ) → Octets f → 6 ≤ length f → primary l f < 2 ^ 48
+unfolding primary
+primary-lt l f o h = run-lt f 0 6 o (omega arith)
+
+zone-head-lt : (l : Link) (f : List ℕ) → Octets f → 8 ≤ length f → zone-head l f < 2 ^ 16
+unfolding zone-head
+zone-head-lt l f o h = run-lt f 6 2 o (omega arith)
+
+-- the headers of a frame, and what follows them
+frame-parts : (l : Link) (f : List ℕ) → Octets f → 8 ≤ length f
+    → f ≡ (octets 6 (primary l f) ++ octets 2 (zone-head l f)) ++ drop 8 f
+unfolding primary zone-head
+frame-parts l f o h =
+    let six : octets 6 (number (take 6 f)) ≡ take 6 f = octets-again f 0 6 o (omega arith) in
+    let two : octets 2 (number (take 2 (drop 6 f))) ≡ take 2 (drop 6 f) = octets-again f 6 2 o (omega arith) in
+    let both : take 8 f ≡ octets 6 (number (take 6 f)) ++ octets 2 (number (take 2 (drop 6 f))) = rw (six, two) (take-add 6 2 f) in
+    sym (take-append-drop 8 f) ∙ ap (λ (g : List ℕ). g ++ drop 8 f) both
+
+-- a frame that is not refused is its headers, written again from what is read, and its zone
+pub frame-again : (s : Settings) (f : List ℕ) → in-range s ≡ true → Octets f → first (frame-rows s f) ≡ 0
+    → f ≡ headers (s .link) (count s f) (replay s f) (pointer-word (pointer s f)) ++ zone-of s f
+unfolding headers zone-of frame-length
+frame-again s f e o r =
+    let bounds = settled s e .on-link in
+    let sound = sound-frame s f r in
+    let h = sound .header in
+    let long : length f ≡ s .zone + 8 = sound .length-right in
+    let w : primary (s .link) f ≡ head-word (s .link) (count s f) (replay s f) =
+    word-by-fields (s .link) (primary (s .link) f) (primary-lt (s .link) f o (omega arith))
+    (h .version-right) (h .spacecraft-right) (h .channel-right) (h .spare-clear) (bounds .spacecraft-most) (bounds .channel-most) in
+    let z : zone-head (s .link) f ≡ pointer-word (pointer s f) =
+    foot-only 16 11 (zone-head (s .link) f) (omega arith) (omega arith) (zone-head-lt (s .link) f o (omega arith)) (h .zone-spare-clear) in
+    let all : take (s .zone) (drop 8 f) ≡ drop 8 f = take-all (s .zone) (drop 8 f) (rw length-drop (omega arith)) in
+    frame-parts (s .link) f o (omega arith)
+    ∙ cc (w, z, all)
+
+-- ---- a frame of a packet channel that begins with its written head is read back
+
+pub length-head : (s : Settings) (c p : ℕ) → length (head s c p) ≡ 8
+unfolding head
+length-head s c p = length-headers (s .link) c 0 (pointer-word p)
+
+module _ (s : Settings) (range : Settled s) (c p : ℕ) (wheel : c < 2 ^ 24) (short : p < 2 ^ 11) (f : List ℕ) (headed : take 8 f ≡ head s c p) where
+  primary-read : primary (s .link) f ≡ head-word (s .link) c 0
+  unfolding head
+  primary-read = primary-written (s .link) c 0 (pointer-word p) f headed
+
+  zone-head-read : zone-head (s .link) f ≡ pointer-word p
+  unfolding head
+  zone-head-read =
+      zone-head-written (s .link) c 0 (pointer-word p) f headed (foot-lt 11 p (omega arith) 16 (omega arith) (omega arith))
+
+  pub version-read : version s f ≡ 1
+  version-read = ap (read version-place) primary-read ∙ version-written (s .link) c 0
+
+  pub spacecraft-read : spacecraft s f ≡ s .link .spacecraft
+  spacecraft-read = ap (read spacecraft-place) primary-read ∙ spacecraft-written (s .link) c 0 (range .on-link .spacecraft-most)
+
+  pub channel-read : channel s f ≡ s .link .channel
+  channel-read = ap (read channel-place) primary-read ∙ channel-written (s .link) c 0 (range .on-link .channel-most)
+
+  pub count-read : count s f ≡ c
+  count-read = ap (read count-place) primary-read ∙ count-written (s .link) c 0 wheel
+
+  pub replay-read : replay s f ≡ 0
+  replay-read = ap (read replay-place) primary-read ∙ replay-written (s .link) c 0 (omega arith)
+
+  pub spare-read : spare s f ≡ 0
+  spare-read = ap (read spare-place) primary-read ∙ spare-written (s .link) c 0
+
+  pub zone-spare-read : zone-spare s f ≡ 0
+  zone-spare-read = ap (read zone-spare-place) zone-head-read ∙ foot-above 11 p (omega arith) 11 5 (omega arith)
+
+  pub pointer-read : pointer s f ≡ p
+  pointer-read = ap (read pointer-place) zone-head-read ∙ foot-read 11 p (omega arith) short

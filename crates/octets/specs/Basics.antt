@@ -1,0 +1,88 @@
+-- Choices, octets and numbers, fields of a word, tables of refusals, and octets written over others.
+use Prim.Native.Nat.{ℕ, zero, suc, _+_, _-_, _*_, _/_, _%_, _^_}
+use mathlib.Core.List.{List, [], _∷_, _++_}
+use mathlib.Core.Bool.{Bool, true, false}
+use lib.ListN.{length, take, drop}
+use lib.Dec.{leb}
+use Rattle.octets.specs.declared.Place.{Place}
+
+abbrev pub pick {ℓ} : {A : Type ℓ} → Bool → A → A → A
+pick true a b = a
+pick false a b = b
+
+abbrev pub and : Bool → Bool → Bool
+and true b = b
+and false b = false
+
+abbrev pub or : Bool → Bool → Bool
+or true b = true
+or false b = b
+
+abbrev pub All {ℓ} : {A : Type ℓ} → (A → Type 0) → List A → Type 0
+All P [] = Unit {0}
+All P (a ∷ rest) = P a × All P rest
+
+-- the number that octets make, the most significant first
+unfoldable pub number-from : ℕ → List ℕ → ℕ
+number-from n [] = n
+number-from n (o ∷ os) = number-from (n * 256 + o) os
+
+unfoldable pub number : List ℕ → ℕ
+number os = number-from 0 os
+
+-- a number as so many octets, the most significant first
+unfoldable pub octets : ℕ → ℕ → List ℕ
+octets zero n = []
+octets (suc k) n = n / 256 ^ k % 256 ∷ octets k n
+
+-- the field of `width` bits that has `place` bits below it
+unfoldable pub field : ℕ → ℕ → ℕ → ℕ
+field word place width = word / 2 ^ place % 2 ^ width
+
+-- a word moved up by `width` bits, with the low bits of another below it
+unfoldable pub join : ℕ → ℕ → ℕ → ℕ
+join high width low = high * 2 ^ width % 2 ^ 64 + low % 2 ^ width
+
+-- the word with a field of it replaced: the bits above the field, the low bits of a value, and the bits below the field
+unfoldable pub placed : ℕ → ℕ → ℕ → ℕ → ℕ
+placed word place width value = join (join (word / 2 ^ (place + width)) width value) place word
+
+-- the same by the field's place
+abbrev pub read : Place → ℕ → ℕ
+read at word = field word (at .below) (at .width)
+
+abbrev pub write : Place → ℕ → ℕ → ℕ
+write at value word = placed word (at .below) (at .width) value
+
+-- the octets from `from` up to `to`
+unfoldable pub part : ℕ → ℕ → List ℕ → List ℕ
+part from to os = take (to - from) (drop from os)
+
+-- `os` written over `buffer` from `at` on
+unfoldable pub over : List ℕ → ℕ → List ℕ → List ℕ
+over buffer at os = take at buffer ++ (os ++ drop (at + length os) buffer)
+
+-- a row of a table of refusals: its number, and whether what it stands for is so
+pub record Row : Type 0 where
+  pub refusal : ℕ
+  pub holds : Bool
+
+abbrev pub row : ℕ → Bool → Row
+row n b = record { refusal = n; holds = b }
+
+-- the first row that holds; 0 where none does
+unfoldable pub first : List Row → ℕ
+first [] = 0
+first (r ∷ rs) = pick (r .holds) (r .refusal) (first rs)
+
+-- the number in the n octets from `at`; 0 where they run past the end
+unfoldable pub number-at : ℕ → ℕ → List ℕ → ℕ
+number-at n at os = pick (leb (at + n) (length os)) (number (take n (drop at os))) 0
+
+-- `os` written over `buffer` from `at` where it fits; `buffer` as it was where not
+unfoldable pub laid : List ℕ → ℕ → List ℕ → List ℕ
+laid buffer at os = pick (leb (at + length os) (length buffer)) (over buffer at os) buffer
+
+-- the same of the octets of `os` from `from` up to `to`, where there are such
+unfoldable pub laid-part : List ℕ → ℕ → ℕ → ℕ → List ℕ → List ℕ
+laid-part buffer at from to os = pick (and (leb from to) (leb to (length os))) (laid buffer at (part from to os)) buffer

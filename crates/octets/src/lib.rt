@@ -1,0 +1,196 @@
+// Octets and numbers: fields of a word, numbers read from octets and written as octets.
+ghost use mathlib.Core.Path.{_≡_};
+ghost use Prim.Native.Nat.{_+_, _-_, _/_, _^_, _≤_, min};
+ghost use lib.ListN.{length, take, drop, getD, replicate};
+ghost use lib.Dec.{leb};
+ghost use Rattle.octets.specs.Basics.{pick, field, join, placed, number, number-at, octets, over, laid, laid-part};
+
+// Where a field stands in a word: how many bits lie below it, and how many it has.
+pub struct Place {
+    pub below: u32,
+    pub width: u32,
+}
+
+// What is left of a word above its lowest `width` bits.
+fn above(word: u64, width: u32) -> u64
+    ensures { λ r. ⌜ r ≡ word / 2 ^ width ⌝ }
+{
+    if width >= 64 { 0 } else { word >> width }
+}
+
+// The field at a place of a word.
+pub fn field(word: u64, at: Place) -> u64
+    ensures { λ r. ⌜ r ≡ field word (at .below) (at .width) ⌝ }
+{
+    let width = at.width;
+    let rest = above(word, at.below);
+    if width >= 64 {
+        return rest;
+    }
+    rest & ((1 << width) - 1)
+}
+
+// A word moved up by `width` bits, with the low bits of another below it.
+fn joined(high: u64, width: u32, low: u64) -> u64
+    ensures { λ r. ⌜ r ≡ join high width low ⌝ }
+{
+    if width >= 64 {
+        return low;
+    }
+    (high << width) | (low & ((1 << width) - 1))
+}
+
+// The word with the field at a place set to the low bits of `value`; every other bit stays.
+pub fn placed(word: u64, at: Place, value: u64) -> u64
+    ensures { λ r. ⌜ r ≡ placed word (at .below) (at .width) value ⌝ }
+{
+    let high = above(above(word, at.below), at.width);
+    joined(joined(high, at.width, value), at.below, word)
+}
+
+// Whether the n places from `at` lie within `len`.
+fn within(len: usize, at: usize, n: usize) -> bool
+    ensures { λ r. ⌜ r ≡ leb (at + n) len ⌝ }
+{
+    n <= len && at <= len - n
+}
+
+// The octet at `at`; 0 past the end.
+pub fn octet(s: &[u8], at: usize) -> u8
+    ensures { λ r. ⌜ r ≡ getD (now (s .entry)) at 0 ⌝ }
+{
+    if at < s.len() { s[at] } else { 0 }
+}
+
+fn two(s: &[u8], at: usize) -> u16
+    requires { ⌜ at + 2 ≤ length (now s) ⌝ }
+    ensures { λ r. ⌜ r ≡ number (take 2 (drop at (now (s .entry)))) ⌝ }
+{
+    ((s[at] as u16) << 8) | s[at + 1] as u16
+}
+
+fn four(s: &[u8], at: usize) -> u32
+    requires { ⌜ at + 4 ≤ length (now s) ⌝ }
+    ensures { λ r. ⌜ r ≡ number (take 4 (drop at (now (s .entry)))) ⌝ }
+{
+    ((two(s, at) as u32) << 16) | two(s, at + 2) as u32
+}
+
+// The number in so many octets from `at`; 0 where they run past the end.
+pub fn number2(s: &[u8], at: usize) -> u16
+    ensures { λ r. ⌜ r ≡ number-at 2 at (now (s .entry)) ⌝ }
+{
+    if within(s.len(), at, 2) {
+        two(s, at)
+    } else {
+        0
+    }
+}
+
+pub fn number3(s: &[u8], at: usize) -> u32
+    ensures { λ r. ⌜ r ≡ number-at 3 at (now (s .entry)) ⌝ }
+{
+    if within(s.len(), at, 3) {
+        ((two(s, at) as u32) << 8) | s[at + 2] as u32
+    } else {
+        0
+    }
+}
+
+pub fn number4(s: &[u8], at: usize) -> u32
+    ensures { λ r. ⌜ r ≡ number-at 4 at (now (s .entry)) ⌝ }
+{
+    if within(s.len(), at, 4) {
+        four(s, at)
+    } else {
+        0
+    }
+}
+
+pub fn number6(s: &[u8], at: usize) -> u64
+    ensures { λ r. ⌜ r ≡ number-at 6 at (now (s .entry)) ⌝ }
+{
+    if within(s.len(), at, 6) {
+        ((four(s, at) as u64) << 16) | two(s, at + 4) as u64
+    } else {
+        0
+    }
+}
+
+// Writes n as k octets over buf from `at`, the most significant first; nothing where they do not fit.
+pub fn put(buf: &mut [u8], at: usize, k: usize, n: u64)
+    ensures { λ _. ⌜ now (buf .exit) ≡ laid (now (buf .entry)) at (octets k n) ⌝ }
+{
+    if !within(buf.len(), at, k) {
+        return;
+    }
+    let mut rest = n;
+    let mut left = k;
+    while left > 0 {
+        left -= 1;
+        buf[at + left] = (rest & 255) as u8;
+        rest = rest >> 8;
+    }
+}
+
+// Copies n octets of src from `from` over buf from `at`.
+fn copy(buf: &mut [u8], at: usize, src: &[u8], from: usize, n: usize)
+    requires { ⌜ at + n ≤ length (now buf) ⌝ }
+    requires { ⌜ from + n ≤ length (now src) ⌝ }
+    ensures { λ _. ⌜ now (buf .exit) ≡ over (now (buf .entry)) at (take n (drop from (now (src .entry)))) ⌝ }
+{
+    let mut i = 0;
+    while i < n {
+        buf[at + i] = src[from + i];
+        i += 1;
+    }
+}
+
+// Copies src[from..to] over buf from `at`; nothing where either range does not fit.
+pub fn lay(buf: &mut [u8], at: usize, src: &[u8], from: usize, to: usize)
+    ensures { λ _. ⌜ now (buf .exit) ≡ laid-part (now (buf .entry)) at from to (now (src .entry)) ⌝ }
+{
+    if to < from {
+        return;
+    }
+    if src.len() < to {
+        return;
+    }
+    if within(buf.len(), at, to - from) {
+        copy(buf, at, src, from, to - from);
+    }
+}
+
+// Writes n times the octet over buf from `at`; nothing where they do not fit.
+pub fn fill(buf: &mut [u8], at: usize, n: usize, octet: u8)
+    ensures { λ _. ⌜ now (buf .exit) ≡ laid (now (buf .entry)) at (replicate n octet) ⌝ }
+{
+    if !within(buf.len(), at, n) {
+        return;
+    }
+    let mut i = 0;
+    while i < n {
+        buf[at + i] = octet;
+        i += 1;
+    }
+}
+
+// A row of a table of refusals: its refusal where it holds, else what the rows below it say.
+pub fn refused(holds: bool, refusal: u8, below: u8) -> u8
+    ensures { λ r. ⌜ r ≡ pick holds refusal below ⌝ }
+{
+    if holds { refusal } else { below }
+}
+
+pub fn least(a: usize, b: usize) -> usize
+    ensures { λ r. ⌜ r ≡ min a b ⌝ }
+{
+    if a < b { a } else { b }
+}
+
+// a less b; 0 where b is more.
+pub fn less(a: usize, b: usize) -> usize
+    ensures { λ r. ⌜ r ≡ a - b ⌝ }
+{
+    if a < b { 0 } else { a - b }
+}
