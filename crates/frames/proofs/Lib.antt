@@ -1,5 +1,7 @@
-pub mod Settled
-pub mod Wheel
-pub mod Rows
+pub mod Accepted
+pub mod Framed
 pub mod Heads
 pub mod ReadBack
+pub mod Rows
+pub mod Settled
+pub mod Wheel

@@ -10,7 +10,7 @@ use lib.Dec.{lit<}
 use lib.ListN.{length, take, drop, length-append, length-drop, take-append-drop}
 use lib.Seq.{take-at, drop-at, take-add, take-all}
 use Rattle.octets.specs.Basics.{field, number, octets, read, write, first}
-use Rattle.octets.proofs.Fields.{placed-read, placed-above, placed-below, placed-lt, field-lt, top-clear, agree-on, foot-read, foot-above, foot-lt, foot-only}
+use Rattle.octets.proofs.Fields.{placed-read, placed-below, placed-lt, placed-within, field-lt, agree-on, foot-read, foot-above, foot-lt, foot-only}
 use Rattle.octets.proofs.Numbers.{Octets, number-octets, octets-again, run-lt}
 use Rattle.octets.proofs.Written.{length-octets}
 use Rattle.frames.specs.Link.{head-word, headers, primary, zone-head, version-place, spacecraft-place, channel-place, count-place, replay-place, spare-place}
@@ -91,21 +91,14 @@ module _ (l : Link) (c r : ℕ) where
   spare-written = under-count 0 7 (omega arith) ∙ placed-below 0 7 1 r (lit< tt) (omega arith) 0 7 (omega arith)
 
   -- nothing stands above the six octets
-  above-all : field (head-word l c r) 48 16 ≡ 0
-  unfolding head-word field
-  above-all =
-      placed-above crafted 46 2 1 crafted-lt (omega arith) 48 16 (omega arith)
-      ∙ placed-above channelled 38 8 (l .spacecraft) channelled-lt (omega arith) 48 16 (omega arith)
-      ∙ placed-above counted 32 6 (l .channel) counted-lt (omega arith) 48 16 (omega arith)
-      ∙ placed-above flagged 8 24 c flagged-lt (omega arith) 48 16 (omega arith)
-      ∙ placed-above 0 7 1 r (lit< tt) (omega arith) 48 16 (omega arith)
-
-  head-word-word : head-word l c r < 2 ^ 64
-  unfolding head-word
-  head-word-word = placed-lt crafted 46 2 1 crafted-lt (omega arith)
-
   pub head-word-lt : head-word l c r < 2 ^ 48
-  head-word-lt = top-clear 48 (head-word l c r) (omega arith) head-word-word above-all
+  unfolding head-word
+  head-word-lt =
+      let flag : flagged < 2 ^ 48 = placed-within 0 7 1 r (lit< tt) (omega arith) 48 (lit< tt) (omega arith) in
+      let count : counted < 2 ^ 48 = placed-within flagged 8 24 c flagged-lt (omega arith) 48 flag (omega arith) in
+      let channel : channelled < 2 ^ 48 = placed-within counted 32 6 (l .channel) counted-lt (omega arith) 48 count (omega arith) in
+      let craft : crafted < 2 ^ 48 = placed-within channelled 38 8 (l .spacecraft) channelled-lt (omega arith) 48 channel (omega arith) in
+      placed-within crafted 46 2 1 crafted-lt (omega arith) 48 craft (omega arith)
 
 pub length-headers : (l : Link) (c r z : ℕ) → length (headers l c r z) ≡ 8
 unfolding headers
@@ -154,16 +147,16 @@ word-by-fields l w h v sc ch sp scl chl =
     let version : w % 2 ^ 48 ≡ b % 2 ^ 48 = agree-on w b 46 2 craft (v ∙ sym (version-written l c r)) in
     sym (mod-eq-of-lt h) ∙ version ∙ mod-eq-of-lt (head-word-lt l c r)
 
-primary-lt : (l : Link) (f : List ℕ) → Octets f → 6 ≤ length f → primary l f < 2 ^ 48
+pub primary-lt : (l : Link) (f : List ℕ) → Octets f → 6 ≤ length f → primary l f < 2 ^ 48
 unfolding primary
 primary-lt l f o h = run-lt f 0 6 o (omega arith)
 
-zone-head-lt : (l : Link) (f : List ℕ) → Octets f → 8 ≤ length f → zone-head l f < 2 ^ 16
+pub zone-head-lt : (l : Link) (f : List ℕ) → Octets f → 8 ≤ length f → zone-head l f < 2 ^ 16
 unfolding zone-head
 zone-head-lt l f o h = run-lt f 6 2 o (omega arith)
 
 -- the headers of a frame, and what follows them
-frame-parts : (l : Link) (f : List ℕ) → Octets f → 8 ≤ length f
+pub frame-parts : (l : Link) (f : List ℕ) → Octets f → 8 ≤ length f
     → f ≡ (octets 6 (primary l f) ++ octets 2 (zone-head l f)) ++ drop 8 f
 unfolding primary zone-head
 frame-parts l f o h =
@@ -204,7 +197,7 @@ module _ (s : Settings) (range : Settled s) (c p : ℕ) (wheel : c < 2 ^ 24) (sh
   zone-head-read : zone-head (s .link) f ≡ pointer-word p
   unfolding head
   zone-head-read =
-      zone-head-written (s .link) c 0 (pointer-word p) f headed (foot-lt 11 p (omega arith) 16 (omega arith) (omega arith))
+      zone-head-written (s .link) c 0 (pointer-word p) f headed (foot-lt 11 p (omega arith) 16 (omega arith))
 
   pub version-read : version s f ≡ 1
   version-read = ap (read version-place) primary-read ∙ version-written (s .link) c 0

@@ -1,2 +1,3 @@
 pub mod Link
 pub mod Frame
+pub mod BitFrame

@@ -8,6 +8,8 @@ ghost use Rattle.frames.specs.Link.{link-in-range, count-place, replay-p
 ghost use Rattle.frames.specs.Frame.{in-range, frame-length, heading-of, heading, pointer-word, head, head-rows};
 use octets::Place;
 
+pub mod bits;
+
 // The spacecraft and the channel that every frame of a link names.
 pub struct Link {
     pub spacecraft: u32,
@@ -75,7 +77,7 @@ const POINTER: Place = Place {
     width: 11,
 };
 
-fn link_in_range(l: Link) -> bool
+pub(crate) fn link_in_range(l: Link) -> bool
     ensures { λ r. ⌜ r ≡ link-in-range l ⌝ }
 {
     (l.spacecraft <= 255) & (l.channel <= 62)
@@ -106,7 +108,7 @@ pub fn is_short(s: Settings, len: usize) -> bool
 }
 
 // What a frame of the right length is refused for, by its own header, the zone's spare bits and a pointer that is not used.
-fn header_refusal(l: Link, head: u64, spare: u64, unused: bool) -> u8
+pub(crate) fn header_refusal(l: Link, head: u64, spare: u64, unused: bool) -> u8
     ensures { λ r. ⌜ r ≡ first (header-rows l head spare unused) ⌝ }
 {
     let channel = (octets::field(head, SPACECRAFT) == l.spacecraft as u64)
@@ -120,7 +122,7 @@ fn header_refusal(l: Link, head: u64, spare: u64, unused: bool) -> u8
     )
 }
 
-fn heading_of(refusal: u8, head: u64, pointer: u64) -> Heading
+pub(crate) fn heading_of(refusal: u8, head: u64, pointer: u64) -> Heading
     requires { ⌜ pointer < 2 ^ 16 ⌝ }
     ensures { λ r. ⌜ r ≡ heading-of refusal (read count-place head) (read replay-place head) pointer ⌝ }
 {
@@ -173,7 +175,7 @@ fn head_word(l: Link, count: u32, replay: u8) -> u64
 }
 
 // Both headers, laid over the front of buf.
-fn put_headers(l: Link, count: u32, zone: u64, buf: &mut [u8])
+pub(crate) fn put_headers(l: Link, count: u32, zone: u64, buf: &mut [u8])
     requires { ⌜ 8 ≤ length (now buf) ⌝ }
     ensures { λ _. ⌜ now (buf .exit) ≡ over (now (buf .entry)) 0 (headers l count 0 zone) ⌝ }
 {

@@ -2,7 +2,7 @@
 -- Assumes nothing.
 use mathlib.Core.Path.{_≡_, refl, sym, ap, subst, _∙_}
 use Prim.Native.Nat.{ℕ, _+_, _-_, _*_, _/_, _%_, _^_, _≤_, _<_}
-use native.Mathlib.Nat.{lt-of-lt-of-le, lt-of-le-of-lt, div-eq-of-lt, mod-eq-of-lt, mod-lt, mul-mod-left, mul-assoc, one-mul, mod-one, zero-mod, add-zero}
+use native.Mathlib.Nat.{lt-of-lt-of-le, lt-of-le-of-lt, div-eq-of-lt, mod-eq-of-lt, mod-lt, mod-le, le-refl, le-trans, mul-mod-left, mul-assoc, one-mul, mod-one, zero-mod, add-zero}
 use native.Mathlib.Omega.{arith}
 use lib.Bits.{bitAnd, bitOr, and-mask, or-shifted}
 use lib.Arith.{digits-lt}
@@ -20,9 +20,18 @@ unfolding field
 field-rest bits word place width h k =
     mod-eq-of-lt (lt-of-le-of-lt (shr-le word place) (lt-of-lt-of-le h (pow-mono k)))
 
-pub field-lt : (word place width : ℕ) → field word place width < 2 ^ width
+-- a field is no more than its word
+pub field-le : (word place width : ℕ) → field word place width ≤ word
 unfolding field
-field-lt word place width = mod-lt (word / 2 ^ place) (pow-pos width)
+field-le word place width = le-trans (mod-le (word / 2 ^ place) (2 ^ width)) (shr-le word place)
+
+-- and within its width, or any wider
+pub field-within : (bits word place width : ℕ) → width ≤ bits → field word place width < 2 ^ bits
+unfolding field
+field-within bits word place width h = lt-of-lt-of-le (mod-lt (word / 2 ^ place) (pow-pos width)) (pow-mono h)
+
+pub field-lt : (word place width : ℕ) → field word place width < 2 ^ width
+field-lt word place width = field-within width word place width (le-refl width)
 
 -- one bit moved up stands for the power
 pub one-up : (bits width : ℕ) → width < bits → (1 * 2 ^ width) % 2 ^ bits ≡ 2 ^ width
@@ -100,6 +109,17 @@ module _ (word place width value : ℕ) (fits : word < 2 ^ 64) (inside : place +
       rw (pow-add 2 (room + width) place) (digits-lt top-lt below-lt) in
       rw as-sum (subst (λ (n : ℕ). top * 2 ^ place + word % 2 ^ place < 2 ^ n) e h)
 
+  -- a word of fewer bits stays so
+  pub placed-within : (bits : ℕ) → word < 2 ^ bits → place + width ≤ bits → placed word place width value < 2 ^ bits
+  placed-within bits h k =
+      let more : ℕ = bits - (place + width) in
+      let e : bits ≡ more + (place + width) = omega arith in
+      let above : word / 2 ^ (place + width) < 2 ^ more = shr-lt more (place + width) (subst (λ (n : ℕ). word < 2 ^ n) e h) in
+      let up : top < 2 ^ (more + width) = rw (pow-add 2 more width) (digits-lt above (mod-lt value (pow-pos width))) in
+      let whole : top * 2 ^ place + word % 2 ^ place < 2 ^ (more + width + place) = rw (pow-add 2 (more + width) place) (digits-lt up below-lt) in
+      let f : more + width + place ≡ bits = omega arith in
+      rw as-sum (subst (λ (n : ℕ). top * 2 ^ place + word % 2 ^ place < 2 ^ n) f whole)
+
   shifted-down : placed word place width value / 2 ^ place ≡ top
   shifted-down = ap (λ (n : ℕ). n / 2 ^ place) as-sum ∙ high top place below-lt
 
@@ -140,16 +160,6 @@ module _ (word place width value : ℕ) (fits : word < 2 ^ 64) (inside : place +
 
 -- ---- a word by its fields
 
--- nothing above a place: the word is below the power
-pub top-clear : (bits word : ℕ) → bits ≤ 64 → word < 2 ^ 64 → field word bits (64 - bits) ≡ 0 → word < 2 ^ bits
-unfolding field
-top-clear bits word h k e =
-    let e64 : 64 ≡ 64 - bits + bits = omega arith in
-    let up : word / 2 ^ bits < 2 ^ (64 - bits) = shr-lt (64 - bits) bits (subst (λ (n : ℕ). word < 2 ^ n) e64 k) in
-    let none : word / 2 ^ bits ≡ 0 = sym (mod-eq-of-lt up) ∙ e in
-    let whole : word / 2 ^ bits * 2 ^ bits + word % 2 ^ bits ≡ word = pow.split word bits in
-    subst (λ (n : ℕ). n < 2 ^ bits) (sym (ap (λ (n : ℕ). n * 2 ^ bits + word % 2 ^ bits) none) ∙ whole) (omega (arith, mod-lt word (pow-pos bits)))
-
 -- words that agree below a field and in it agree up to its end
 pub agree-on : (a b place width : ℕ) → a % 2 ^ place ≡ b % 2 ^ place → field a place width ≡ field b place width
     → a % 2 ^ (width + place) ≡ b % 2 ^ (width + place)
@@ -168,9 +178,8 @@ module _ (width value : ℕ) (inside : width ≤ 64) where
   pub foot-above : (place size : ℕ) → width ≤ place → field (placed 0 0 width value) place size ≡ 0
   foot-above place size h = placed-above 0 0 width value (pow-pos 64) (omega arith) place size (omega arith) ∙ field-zero place size
 
-  pub foot-lt : (bits : ℕ) → bits ≤ 64 → width ≤ bits → placed 0 0 width value < 2 ^ bits
-  foot-lt bits n h =
-      top-clear bits (placed 0 0 width value) n (placed-lt 0 0 width value (pow-pos 64) (omega arith)) (foot-above bits (64 - bits) h)
+  pub foot-lt : (bits : ℕ) → width ≤ bits → placed 0 0 width value < 2 ^ bits
+  foot-lt bits h = placed-within 0 0 width value (pow-pos 64) (omega arith) bits (pow-pos bits) (omega arith)
 
 -- a word with nothing above the field at its foot is that field, put into 0
 pub foot-only : (bits width word : ℕ) → bits ≤ 64 → width ≤ bits → word < 2 ^ bits → field word width (bits - width) ≡ 0
@@ -186,4 +195,4 @@ foot-only bits width word n h k e =
     subst (λ (j : ℕ). word % 2 ^ j ≡ b % 2 ^ j) wide
     (agree-on word b width (bits - width) (subst (λ (j : ℕ). word % 2 ^ j ≡ b % 2 ^ j) (add-zero width) low-same)
     (e ∙ sym (foot-above width v inside width (bits - width) (omega arith)))) in
-    sym (mod-eq-of-lt k) ∙ same ∙ mod-eq-of-lt (foot-lt width v inside bits n h)
+    sym (mod-eq-of-lt k) ∙ same ∙ mod-eq-of-lt (foot-lt width v inside bits h)

@@ -5,7 +5,7 @@ use mathlib.Core.List.{List, [], _∷_, _++_}
 use Prim.Native.Nat.{ℕ, zero, suc, _+_, _*_, _/_, _%_, _^_, _≤_, _<_}
 use native.Mathlib.Nat.{add-mul, mul-assoc, mul-one, zero-add, add-zero, mul-suc, add-assoc, add-comm, mod-one, mod-eq-of-lt, one-le-pow, zero-lt-suc, pow-zero, pow-succ'}
 use native.Mathlib.Omega.{arith}
-use lib.ListN.{length, take, drop, getD, length-drop}
+use lib.ListN.{length, take, drop, getD, length-drop, List·getD-eq-default}
 use lib.Seq.{take-add, drop-drop, getD-drop, length-take-le, drop-cons}
 use lib.Bits.{bitOr, or-shifted}
 use lib.Pow.{pow-add, shl-exact}
@@ -13,16 +13,17 @@ use lib.Arith.{digits-lt, digits-div, digits-mod, mod-mul}
 use mir.Syntax.{w8}
 use mir.Val.{Fits}
 use borrow.Author.Tests.{le-leb, lt-leb}
+use Rattle.octets.proofs.Choices.{split}
 use Rattle.octets.specs.Basics.{number, number-from, number-at, octets}
 
 -- every element is an octet
 abbrev pub Octets : List ℕ → Type 0
 Octets s = (i : ℕ) → Fits w8 (getD s i 0)
 
-octets-drop : (k : ℕ) (s : List ℕ) → Octets s → Octets (drop k s)
+pub octets-drop : (k : ℕ) (s : List ℕ) → Octets s → Octets (drop k s)
 octets-drop k s h i = rw (getD-drop k s i 0) (h (k + i))
 
-octets-take : (k : ℕ) (s : List ℕ) → Octets s → Octets (take k s)
+pub octets-take : (k : ℕ) (s : List ℕ) → Octets s → Octets (take k s)
 octets-take zero s h i = record { fits = omega arith }
 octets-take (suc k) [] h i = h i
 octets-take (suc k) (o ∷ s) h zero = h zero
@@ -119,16 +120,22 @@ from-written [] h n = refl
 from-written (o ∷ os) h n =
     let k : ℕ = length os in
     let below : number os < 256 ^ k = rw (octet-bits k) (number-lt os (λ i. h (suc i))) in
-    let split : number-from (n * 256 + o) os ≡ (n * 256 + o) * 256 ^ k + number os =
+    let parts : number-from (n * 256 + o) os ≡ (n * 256 + o) * 256 ^ k + number os =
     rw (octet-bits k) (from-split (n * 256 + o) os) in
     let top : number-from (n * 256 + o) os / 256 ^ k % 256 ≡ o =
-    ap (λ (m : ℕ). m / 256 ^ k % 256) split ∙ ap (λ (m : ℕ). m % 256) (digits-div (n * 256 + o) below) ∙ digits-mod n (h 0 .fits) in
+    ap (λ (m : ℕ). m / 256 ^ k % 256) parts ∙ ap (λ (m : ℕ). m % 256) (digits-div (n * 256 + o) below) ∙ digits-mod n (h 0 .fits) in
     cc (top, from-written os (λ i. h (suc i)) (n * 256 + o))
 
 -- octets read as a number are written back
 pub octets-number : (os : List ℕ) → Octets os → octets (length os) (number os) ≡ os
 unfolding number
 octets-number os h = from-written os h 0
+
+-- the octet at a place, also past the end
+pub octet-at : (s : List ℕ) (at : ℕ) → number-at 1 at s ≡ getD s at 0
+octet-at s at =
+    split (at + 1) (length s) (λ h. number-within 1 at s h ∙ one-octet s at (omega arith))
+    (λ h. number-past 1 at s h ∙ sym (List·getD-eq-default s 0 (omega arith)))
 
 -- the same of a run of octets
 pub octets-again : (s : List ℕ) (at n : ℕ) → Octets s → at + n ≤ length s → octets n (number (take n (drop at s))) ≡ take n (drop at s)

@@ -1,5 +1,5 @@
 -- Choices, octets and numbers, fields of a word, tables of refusals, and octets written over others.
-use Prim.Native.Nat.{ℕ, zero, suc, _+_, _-_, _*_, _/_, _%_, _^_}
+use Prim.Native.Nat.{ℕ, zero, suc, _+_, _-_, _*_, _/_, _%_, _^_, _<_}
 use mathlib.Core.List.{List, [], _∷_, _++_}
 use mathlib.Core.Bool.{Bool, true, false}
 use lib.ListN.{length, take, drop}
@@ -21,6 +21,10 @@ or false b = b
 abbrev pub All {ℓ} : {A : Type ℓ} → (A → Type 0) → List A → Type 0
 All P [] = Unit {0}
 All P (a ∷ rest) = P a × All P rest
+
+-- every element is an octet
+abbrev pub AllOctets : List ℕ → Type 0
+AllOctets os = All (λ o. o < 256) os
 
 -- the number that octets make, the most significant first
 unfoldable pub number-from : ℕ → List ℕ → ℕ

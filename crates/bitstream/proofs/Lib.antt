@@ -1,0 +1,12 @@
+pub mod Answers
+pub mod Sizes
+pub mod Bits
+pub mod Zones
+pub mod Laid
+pub mod Writes
+pub mod Readings
+pub mod Pointers
+pub mod ReadBack
+pub mod Flags
+pub mod Reached
+pub mod Samples

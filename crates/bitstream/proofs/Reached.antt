@@ -1,0 +1,91 @@
+-- The records that pass the checks of refusal 10 are exactly those that calls reach.
+-- Assumes nothing.
+use mathlib.Core.Path.{_≡_, refl, sym, ap, subst, _∙_}
+use mathlib.Core.List.{List, []}
+use mathlib.Core.Bool.{Bool, true, false}
+use Prim.Native.Nat.{ℕ, zero, suc, _+_, _%_, _^_, _<_}
+use native.Mathlib.Omega.{arith}
+use lib.ListN.{length, replicate, length-replicate}
+use lib.Dec.{eqb}
+use borrow.Author.Tests.{le-leb, lt-ltb, le-ltb, ltb-true}
+use Rattle.octets.specs.Basics.{first}
+use Rattle.octets.proofs.Fields.{field-lt}
+use Rattle.frames.specs.Link.{count-width, next-count, primary}
+use Rattle.frames.specs.BitFrame.{bits-in-range, bit-frame-length, bit-count, most-bits}
+use Rattle.frames.specs.declared.bits.BitSettings.{BitSettings}
+use Rattle.bitstream.specs.Bitstream.{octets-for, writer-reachable, write-rows, Wrote, written, frame-with, reader-reachable, read-rows, reading}
+use Rattle.bitstream.specs.Statements.{WriterReached, nothing-written, wrote-more, ReaderReached, nothing-read, read-more}
+use Rattle.bitstream.specs.declared.Writer.{Writer}
+use Rattle.bitstream.specs.declared.Reader.{Reader}
+use Rattle.bitstream.specs.declared.Reader.the-variants.{Fresh, Last}
+use Rattle.bitstream.specs.declared.Reading.{Reading}
+use Rattle.bitstream.proofs.Answers.{write-refusal}
+use Rattle.bitstream.proofs.Writes.{write-done}
+use Rattle.bitstream.proofs.ReadBack.{frame-read-back}
+
+-- ---- what a call hands back passes its own check
+
+pub writer-kept : (s : BitSettings) (w : Writer) (bits : List ℕ) (n : ℕ) (d : List ℕ) → writer-reachable s w ≡ true
+    → writer-reachable s (written s w bits n d .said .writer) ≡ true
+unfolding written writer-reachable next-count count-width
+writer-kept s w bits n d h = go (eqb (first (write-rows s w n (length bits) (length d))) 0) refl
+  where
+    go : (t : Bool) → eqb (first (write-rows s w n (length bits) (length d))) 0 ≡ t → writer-reachable s (written s w bits n d .said .writer) ≡ true
+    go true e = rw e (lt-ltb ((w .count + 1) % 2 ^ 24) (2 ^ 24) (omega arith))
+    go false e = rw e h
+
+pub reader-kept : (s : BitSettings) (x : Reader) (f : List ℕ) → reader-reachable s x ≡ true → reader-reachable s (reading s x f .reader) ≡ true
+unfolding reading reader-reachable count-width
+reader-kept s x f h = go (eqb (first (read-rows s x f)) 0) refl
+  where
+    go : (t : Bool) → eqb (first (read-rows s x f)) 0 ≡ t → reader-reachable s (reading s x f .reader) ≡ true
+    go true e = rw e (lt-ltb (bit-count s f) (2 ^ 24) (field-lt (primary (s .link) f) 8 24))
+    go false e = rw e h
+
+pub writer-passes : (s : BitSettings) (w : Writer) → WriterReached s w → writer-reachable s w ≡ true
+unfolding writer-reachable count-width
+writer-passes s w nothing-written = refl
+writer-passes s w (wrote-more {w = v} r bits n d e) = writer-kept s v bits n d (writer-passes s v r)
+
+pub reader-passes : (s : BitSettings) (x : Reader) → ReaderReached s x → reader-reachable s x ≡ true
+unfolding reader-reachable
+reader-passes s x nothing-read = refl
+reader-passes s x (read-more {x = y} r f e) = reader-kept s y f (reader-passes s y r)
+
+-- ---- what passes is reached, where the settings are in range: a writer by so many calls with no bits, a reader by one frame
+
+module _ (s : BitSettings) (range : bits-in-range s ≡ true) where
+  -- a call with no bits
+  abbrev frame : List ℕ
+  frame = replicate (bit-frame-length s) 0
+
+  abbrev counted : ℕ → Writer
+  counted c = record { count = c }
+
+  none : (c : ℕ) → c < 2 ^ 24 → first (write-rows s (counted c) 0 0 (length frame)) ≡ 0
+  unfolding first write-rows octets-for writer-reachable count-width
+  none c h = rw (range, le-leb 0 (most-bits s) (omega arith), length-replicate {A = ℕ} (bit-frame-length s) 0, le-ltb (bit-frame-length s) (bit-frame-length s) (omega arith), lt-ltb c (2 ^ 24) h) refl
+
+  writes : (c : ℕ) → suc c < 2 ^ 24 → WriterReached s (counted c) → WriterReached s (counted (suc c))
+  unfolding next-count
+  writes c h r =
+      let n : first (write-rows s (counted c) 0 0 (length frame)) ≡ 0 = none c (omega arith) in
+      let next : suc c ≡ (c + 1) % 2 ^ 24 = omega arith in
+      subst (WriterReached s) (sym (ap (λ (a : Wrote). a .said .writer) (write-done s (counted c) 0 [] frame (suc c) _ n next refl)))
+      (wrote-more r [] 0 frame (write-refusal s (counted c) 0 [] frame ∙ n))
+
+  counts : (c : ℕ) → c < 2 ^ 24 → WriterReached s (counted c)
+  counts zero h = nothing-written
+  counts (suc c) h = writes c h (counts c (omega arith))
+
+  pub writer-reached : (w : Writer) → writer-reachable s w ≡ true → WriterReached s w
+  unfolding writer-reachable count-width
+  writer-reached w h = counts (w .count) (ltb-true _ _ h)
+
+  pub reader-reached : (x : Reader) → reader-reachable s x ≡ true → ReaderReached s x
+  unfolding reader-reachable count-width octets-for
+  reader-reached Fresh h = nothing-read
+  reader-reached (Last c) h =
+      let back = frame-read-back s range c 0 [] (ltb-true _ _ h) (omega arith) (omega arith) (λ i. record { fits = omega arith }) Fresh refl .said in
+      subst (ReaderReached s) (ap (λ (a : Reading). a .reader) back)
+      (read-more nothing-read (frame-with s c 0 []) (ap (λ (a : Reading). a .refusal) back))

@@ -1,0 +1,73 @@
+-- `bitstream::leading_octets` meets its contract: the octets lie within the zone, and the zone within the frame.
+-- Assumes nothing.
+use mathlib.Core.Path.{_≡_, sym, ap, _∙_}
+use Prim.Native.Nat.{ℕ, _+_, _-_, _≤_}
+use native.Mathlib.Omega.{arith}
+use lib.ListN.{length, take, drop}
+use lib.Dec.{leb}
+use borrow.Author.Needs.{needs}
+use borrow.Author.Tests.{leb-true, eqb-true}
+use Rattle.octets.specs.Basics.{and}
+use Rattle.octets.proofs.Choices.{and-true}
+use Rattle.frames.specs.BitFrame.{bit-frame-length}
+use Rattle.bitstream.specs.Bitstream.{octets-for}
+use Rattle.bitstream.proofs.Sizes.{octets-within, held-in, leading-some, leading-none}
+use Rattle.bitstream.proofs.leading_octets.Statement.{statement}
+use Rattle.bitstream.proofs.leading_octets.Tie as tie
+
+-- both tests are the definition's
+module _ (c : tie.After-struct-known) where
+  abbrev start : tie.Start
+  start = c .before .before .before .before
+
+  tests : and (c .before .has-length .result) (leb (c .before .before .octets-for .result) (start .args .s .width))
+      ≡ held-in (start .args .s) (start .args .n) (start .args .frame .now)
+  tests = cc (octets-within (start .args .n) (start .args .s .width))
+
+-- the octets end within the frame
+within : (c : tie.Then1) → 8 + c .before .before .before .octets-for .result ≤ length (start (c .before) .args .frame .now)
+unfolding bit-frame-length
+within c =
+    let a = start (c .before) .args in
+    let both = and-true _ _ (c .if1 .taken) in
+    let inside : c .before .before .before .octets-for .result ≤ a .s .width = leb-true _ _ (both .1) in
+    let long : length (a .frame .now) ≡ bit-frame-length (a .s) = eqb-true _ _ (sym (c .before .before .has-length .ensures) ∙ both .0) in
+    omega arith
+
+add-end : tie.Need-add-end
+add-end c = record { fits = omega (arith, within c) }
+
+part-result-end : tie.Need-part-result-end
+part-result-end c = within c
+
+returns : tie.Need-returns
+returns c =
+    let at-if1 = c .before in
+    let at = at-if1 .before in
+    let a = start at .args in
+    let size : 8 + at .before .before .octets-for .result - 8 ≡ octets-for (a .n) = omega (arith, at .before .before .octets-for .ensures) in
+    ap (λ (k : ℕ). take k (drop 8 (a .frame .now))) size
+    ∙ sym (leading-some (a .s) (a .n) (a .frame .now) (sym (tests at) ∙ at-if1 .if1 .taken))
+
+returns-2 : tie.Need-returns-2
+returns-2 c =
+    let at-if1 = c .before in
+    let at = at-if1 .before in
+    let a = start at .args in
+    sym (leading-none (a .s) (a .n) (a .frame .now) (sym (tests at) ∙ at-if1 .if1 .left))
+
+pub leading-octets-spec : {M : Type 1} → statement M
+leading-octets-spec =
+    tie.close
+    (tie.spec
+    (λ c κs. search needs)
+    (λ c κs. search needs)
+    add-end
+    (λ c. search needs)
+    (λ c. search needs)
+    part-result-end
+    returns
+    (λ c. search needs)
+    (λ c. search needs)
+    (λ c. search needs)
+    returns-2)

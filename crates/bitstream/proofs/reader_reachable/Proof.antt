@@ -1,0 +1,18 @@
+-- `bitstream::reader_reachable` meets its contract: in each case the test is the definition's.
+-- Assumes nothing.
+use borrow.Author.Needs.{needs}
+use Rattle.frames.specs.Link.{count-width}
+use Rattle.bitstream.specs.Bitstream.{reader-reachable}
+use Rattle.bitstream.proofs.reader_reachable.Statement.{statement}
+use Rattle.bitstream.proofs.reader_reachable.Tie as tie
+
+returns : tie.Need-returns
+unfolding reader-reachable
+returns c = cc
+
+returns-2 : tie.Need-returns-2
+unfolding reader-reachable count-width
+returns-2 c = cc
+
+pub reader-reachable-spec : {M : Type 1} → statement M
+reader-reachable-spec = tie.close (tie.spec (λ c. search needs) (λ c. search needs) returns returns-2)

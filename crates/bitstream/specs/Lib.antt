@@ -1,0 +1,2 @@
+pub mod Bitstream
+pub mod Statements

@@ -1,0 +1,69 @@
+-- `multiplexer::lay_idle_packet` meets its contract: the idle packet is laid to the zone's end, and counted.
+-- Assumes nothing.
+use mathlib.Core.Path.{_≡_}
+use mathlib.Core.List.{List}
+use Prim.Native.Nat.{ℕ, _-_}
+use native.Mathlib.Omega.{arith}
+use lib.ListN.{length}
+use borrow.Author.Tests.{le-leb}
+use Rattle.packets.specs.Idle.{idle-packet, idle-laid}
+use Rattle.packets.proofs.Idles.{idle-length}
+use Rattle.multiplexer.specs.Multiplex.{fits-now}
+use Rattle.multiplexer.proofs.Records.{start-fits}
+use Rattle.multiplexer.proofs.Rows.{Accepted, flush-passed}
+use Rattle.multiplexer.proofs.Laying.{accepted-fills, part-all, laid-in}
+use borrow.Author.Needs.{needs}
+use Rattle.multiplexer.proofs.lay_idle_packet.Statement.{statement}
+use Rattle.multiplexer.proofs.lay_idle_packet.Tie as tie
+
+passed : (c : tie.Start) → Accepted (c .args .s) (c .args .m) (length (c .args .frame .now)) × (c .args .m .taken ≡ 0)
+passed c = flush-passed (c .args .s) (c .args .m) (length (c .args .frame .now)) (c .pre)
+
+-- the idle packet that is laid
+packet : (c : tie.Start) → List ℕ
+packet c = idle-packet (c .args .s .fill) (c .args .s .zone - c .args .m .filled)
+
+long : (c : tie.Start) → length (packet c) ≡ c .args .s .zone - c .args .m .filled
+unfolding packet
+long c =
+    let w = passed c in
+    idle-length (c .args .s .fill) (c .args .s .zone - c .args .m .filled) (omega arith)
+
+sub-left : tie.Need-sub-left
+sub-left c =
+    let w = passed (c .before .before .before) in
+    omega arith
+
+add-zone : tie.Need-add-write-idle
+add-zone c =
+    let w = passed (c .before .before .before .before .before) in
+    record { fits = omega arith }
+
+packet-laid-requires : tie.Need-packet-laid-requires
+packet-laid-requires c κs =
+    let at-write = c .before .before .before in
+    let at-start = at-write .before .before .before .before .before .before in
+    let a = at-start .args in
+    let w = passed at-start in (
+      accepted-fills _ _ _ (w .0) (at-write .write-idle .kept .0) (start-fits (a .s) (w .0 .range) (a .m) (w .0 .passes)) (omega arith),
+      omega arith,
+    )
+
+returns : tie.Need-returns
+unfolding packet fits-now idle-laid
+returns c =
+    let at-answer = c .before .before in
+    let at-write = at-answer .before .before .before .before in
+    let at-start = at-write .before .before .before .before .before .before in
+    let a = at-start .args in
+    let w = passed at-start in
+    let l = long at-start in
+    let left : ℕ = a .s .zone - a .m .filled in
+    let written = rw (le-leb 1 left (omega arith), le-leb left 65535 (omega arith)) at (at-write .write-idle .ensures) in
+    at-answer .packet-laid .ensures (packet at-start) (a .frame .now) l (omega arith)
+    (rw (part-all (packet at-start) (a .m .taken) _ (w .1) l) (laid-in (a .frame .now) (w .0) (packet at-start) (omega arith) written))
+
+pub lay-idle-packet-spec : {M : Type 1} → statement M
+lay-idle-packet-spec =
+    tie.close
+    (tie.spec sub-left add-zone (λ c κs. search needs) packet-laid-requires (λ c. search needs) returns)

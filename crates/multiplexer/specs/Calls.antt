@@ -1,0 +1,66 @@
+-- The multiplexer's calls as one type: what each is refused for, what it does, and what it answers.
+use mathlib.Core.Path.{_≡_}
+use Prim.Native.Nat.{ℕ}
+use mathlib.Core.List.{List}
+use mathlib.Core.Bool.{Bool, true, false}
+use lib.ListN.{length}
+use lib.Dec.{eqb}
+use Rattle.octets.specs.Basics.{pick, Row, first}
+use Rattle.frames.specs.declared.Settings.{Settings}
+use Rattle.multiplexer.specs.Multiplex.{Put, put-rows, put, flush-rows, flush, idle-rows, idle-frame}
+use Rattle.multiplexer.specs.declared.Mux.{Mux}
+use Rattle.multiplexer.specs.declared.Reply.{Reply}
+use Rattle.multiplexer.specs.declared.Reply.the-variants.{Refused, Done}
+
+pub data Call : Type 0 where
+  to-put : List ℕ → Call
+  to-flush : Call
+  to-idle : Call
+
+abbrev pub call-rows : Settings → Mux → Call → ℕ → List Row
+call-rows s m (to-put p) room = put-rows s m p room
+call-rows s m to-flush room = flush-rows s m room
+call-rows s m to-idle room = idle-rows s m room
+
+abbrev pub call : Settings → Mux → Call → List ℕ → Put
+call s m (to-put p) frame = put s m p frame
+call s m to-flush frame = flush s m frame
+call s m to-idle frame = idle-frame s m frame
+
+-- what a call answers, in document 01's numbers, and the frame that it leaves
+pub record Answer : Type 0 where
+  -- the refusal, or 0
+  pub refusal : ℕ
+  -- whether the call was carried out; then whether the zone is full, and whether the packet is taken
+  pub done : Bool
+  pub full : Bool
+  pub taken : Bool
+  -- the record to go on with
+  pub mux : Mux
+  pub frame : List ℕ
+
+-- a refusal leaves the record and the frame that it was given
+abbrev pub refusing : ℕ → Mux → List ℕ → Answer
+refusing n m frame = record { refusal = n; done = false; full = false; taken = false; mux = m; frame = frame }
+
+abbrev pub doing : Put → Answer
+doing w = record { refusal = 0; done = true; full = w .full; taken = w .taken; mux = w .mux; frame = w .frame }
+
+-- the values of a reply, and the frame that is left behind
+unfoldable pub answers : Reply → List ℕ → Answer
+answers (Refused n m) frame = refusing n m frame
+answers (Done full taken m) frame = doing (record { full = full; taken = taken; mux = m; frame = frame })
+
+-- THE RULE OF EVERY CALL: the first row that holds refuses it; where none holds it is carried out
+unfoldable pub answer : Settings → Mux → Call → List ℕ → Answer
+answer s m c frame =
+    let n : ℕ = first (call-rows s m c (length frame)) in
+    pick (eqb n 0) (doing (call s m c frame)) (refusing n m frame)
+
+-- a reply and the frame that is left behind meet the promise of a call
+pub record Outcome : Type 0 where
+  pub reply : Reply
+  pub frame : List ℕ
+
+abbrev pub Meets : Outcome → Answer → Type 0
+Meets o a = answers (o .reply) (o .frame) ≡ a

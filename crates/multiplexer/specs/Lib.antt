@@ -1,0 +1,4 @@
+pub mod Multiplex
+pub mod Calls
+pub mod Laying
+pub mod Passes

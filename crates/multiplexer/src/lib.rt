@@ -1,0 +1,221 @@
+// The multiplexer: packets in, frames out, call by call.
+ghost use mathlib.Core.Path.{_≡_};
+ghost use mathlib.Core.List.{List, _++_};
+ghost use Prim.Native.Nat.{_+_, _-_, _≤_};
+ghost use lib.ListN.{length};
+ghost use lib.Dec.{eqb};
+ghost use Rattle.octets.specs.Basics.{pick, Row, first};
+ghost use Rattle.packets.specs.Idle.{idle-packet};
+ghost use Rattle.multiplexer.specs.Multiplex.{begun, mux-reachable, lent-rows, put-rows, flush-rows, idle-rows, start-now, put, idle-frame};
+ghost use Rattle.multiplexer.specs.Calls.{to-put, to-flush, to-idle, doing, answers, answer};
+ghost use Rattle.multiplexer.specs.Laying.{Fills, Counted, PacketLaid};
+use frames::IDLE_ZONE;
+use frames::NO_START;
+use frames::Settings;
+use frames::WHEEL;
+use frames::ZONE_AT;
+
+// What a multiplexer keeps between calls.
+pub struct Mux {
+    // The count of the frame that is being filled.
+    pub count: u32,
+    // The octets in its zone.
+    pub filled: usize,
+    // Where the first packet of the zone starts; NO_START where none does yet.
+    pub first: usize,
+    // The octets of the packet already taken; 0 between packets.
+    pub taken: usize,
+}
+
+// What a call answers, with the record to go on with.
+pub enum Reply {
+    // The number of the refusal; the record is the one that was given.
+    Refused { refusal: u8, mux: Mux },
+    // Whether the zone is full, and whether the packet is taken; both may hold.
+    Done { full: bool, taken: bool, mux: Mux },
+}
+
+// The first record.
+pub fn begin() -> Mux
+    ensures { λ r. ⌜ r ≡ begun ⌝ }
+{
+    Mux {
+        count: 0,
+        filled: 0,
+        first: NO_START,
+        taken: 0,
+    }
+}
+
+// Whether the calls can lead to a record.
+fn mux_reachable(s: Settings, m: Mux) -> bool
+    ensures { λ r. ⌜ r ≡ mux-reachable s m ⌝ }
+{
+    let counted = m.count < WHEEL;
+    if m.taken == 0 {
+        return counted & ((m.filled < s.zone) & ((m.first == NO_START) | (m.first < m.filled)));
+    }
+    counted & ((m.filled == 0) & ((m.first == NO_START) & (m.taken < s.limit)))
+}
+
+// The rows that every call has, above those of its own.
+fn lent_refusal(s: Settings, m: Mux, room: usize, below: u8) -> u8
+    ensures { λ r. ⌜ ((rows : List Row) → below ≡ first rows → r ≡ first (lent-rows s m room ++ rows)) ⌝ }
+{
+    let reached = octets::refused(!mux_reachable(s, m), 10, below);
+    let long = octets::refused(frames::is_short(s, room), 2, reached);
+    octets::refused(!frames::in_range(s), 1, long)
+}
+
+// What a call is refused for; 0 where it is not.
+fn put_refusal(s: Settings, m: Mux, p: &[u8], room: usize) -> u8
+    ensures { λ r. ⌜ r ≡ first (put-rows s m (now (p .entry)) room) ⌝ }
+{
+    let formed = octets::refused(!packets::well_formed(s.limit, p), 8, 0);
+    let moment = octets::refused((0 < m.taken) & (p.len() <= m.taken), 9, formed);
+    lent_refusal(s, m, room, moment)
+}
+
+fn flush_refusal(s: Settings, m: Mux, room: usize) -> u8
+    ensures { λ r. ⌜ r ≡ first (flush-rows s m room) ⌝ }
+{
+    let moment = octets::refused(0 < m.taken, 9, 0);
+    lent_refusal(s, m, room, moment)
+}
+
+fn idle_refusal(s: Settings, m: Mux, room: usize) -> u8
+    ensures { λ r. ⌜ r ≡ first (idle-rows s m room) ⌝ }
+{
+    let moment = octets::refused((0 < m.taken) | (0 < m.filled), 9, 0);
+    lent_refusal(s, m, room, moment)
+}
+
+// Where the zone's first packet starts, once more octets are laid: a packet that is continued starts nothing.
+fn start_now(m: Mux) -> usize
+    ensures { λ r. ⌜ r ≡ start-now m ⌝ }
+{
+    if (m.taken == 0) & (m.first == NO_START) {
+        m.filled
+    } else {
+        m.first
+    }
+}
+
+// What is taken of a packet of `len` octets, for the next call: a packet that is whole is done with.
+fn taken_now(taken: usize, len: usize) -> usize
+    ensures { λ r. ⌜ r ≡ pick (eqb taken len) 0 taken ⌝ }
+{
+    if taken == len { 0 } else { taken }
+}
+
+// Counts n octets that were laid into the zone. A zone that is now full gets its header.
+fn count_in(s: Settings, m: Mux, start: usize, n: usize, taken: usize, frame: &mut [u8]) -> Mux
+    requires { ⌜ Fills s m start n (now frame) ⌝ }
+    ensures { λ r. ⌜ Counted s m start n taken r (now (frame .entry)) (now (frame .exit)) ⌝ }
+{
+    if m.filled + n == s.zone {
+        frames::write_head(s, m.count, start as u16, frame);
+        return Mux {
+            count: (m.count + 1) % WHEEL,
+            filled: 0,
+            first: NO_START,
+            taken,
+        };
+    }
+    Mux {
+        count: m.count,
+        filled: m.filled + n,
+        first: start,
+        taken,
+    }
+}
+
+// What a call answers that laid the next n octets of a packet of `len` into the zone.
+fn packet_laid(s: Settings, m: Mux, n: usize, len: usize, frame: &mut [u8]) -> Reply
+    requires { ⌜ Fills s m (start-now m) n (now frame) ⌝ }
+    requires { ⌜ m .taken + n ≤ len ⌝ }
+    ensures { λ r. ⌜ PacketLaid s m n len r (now (frame .entry)) (now (frame .exit)) ⌝ }
+{
+    let to = m.taken + n;
+    let start = start_now(m);
+    let taken = taken_now(to, len);
+    Reply::Done {
+        full: m.filled + n == s.zone,
+        taken: to == len,
+        mux: count_in(s, m, start, n, taken, frame),
+    }
+}
+
+// Lays as many of the packet's octets into the zone as fit.
+fn lay_packet(s: Settings, m: Mux, p: &[u8], frame: &mut [u8]) -> Reply
+    requires { ⌜ first (put-rows s m (now p) (length (now frame))) ≡ 0 ⌝ }
+    ensures { λ r. ⌜ answers r (now (frame .exit)) ≡ doing (put s m (now (p .entry)) (now (frame .entry))) ⌝ }
+{
+    let from = m.taken;
+    let n = octets::least(s.zone - m.filled, p.len() - from);
+    octets::lay(frame, ZONE_AT + m.filled, p, from, from + n);
+    packet_laid(s, m, n, p.len(), frame)
+}
+
+// Lays the idle packet that fills the zone.
+fn lay_idle_packet(s: Settings, m: Mux, frame: &mut [u8]) -> Reply
+    requires { ⌜ first (flush-rows s m (length (now frame))) ≡ 0 ⌝ }
+    ensures { λ r. ⌜ answers r (now (frame .exit)) ≡ doing (put s m (idle-packet (s .fill) (s .zone - m .filled)) (now (frame .entry))) ⌝ }
+{
+    let left = s.zone - m.filled;
+    packets::write_idle(frame, ZONE_AT + m.filled, left, s.fill);
+    packet_laid(s, m, left, left, frame)
+}
+
+// Fills the zone with the fill octet.
+fn lay_idle_zone(s: Settings, m: Mux, frame: &mut [u8]) -> Reply
+    requires { ⌜ first (idle-rows s m (length (now frame))) ≡ 0 ⌝ }
+    ensures { λ r. ⌜ answers r (now (frame .exit)) ≡ doing (idle-frame s m (now (frame .entry))) ⌝ }
+{
+    octets::fill(frame, ZONE_AT + m.filled, s.zone, s.fill);
+    Reply::Done {
+        full: true,
+        taken: false,
+        mux: count_in(s, m, IDLE_ZONE, s.zone, 0, frame),
+    }
+}
+
+// Puts as many of the packet's octets as fit into the frame, after those already taken.
+pub fn put(s: Settings, m: Mux, p: &[u8], frame: &mut [u8]) -> Reply
+    ensures { λ r. ⌜ answers r (now (frame .exit)) ≡ answer s m (to-put (now (p .entry))) (now (frame .entry)) ⌝ }
+{
+    let refusal = put_refusal(s, m, p, frame.len());
+    if refusal != 0 {
+        return Reply::Refused { refusal, mux: m };
+    }
+    lay_packet(s, m, p, frame)
+}
+
+// Fills a begun zone with one idle packet; an empty zone stays as it is.
+pub fn flush(s: Settings, m: Mux, frame: &mut [u8]) -> Reply
+    ensures { λ r. ⌜ answers r (now (frame .exit)) ≡ answer s m to-flush (now (frame .entry)) ⌝ }
+{
+    let refusal = flush_refusal(s, m, frame.len());
+    if refusal != 0 {
+        return Reply::Refused { refusal, mux: m };
+    }
+    if m.filled == 0 {
+        return Reply::Done {
+            full: false,
+            taken: false,
+            mux: m,
+        };
+    }
+    lay_idle_packet(s, m, frame)
+}
+
+// Writes a frame whose zone is idle: the fill octet throughout.
+pub fn idle_zone(s: Settings, m: Mux, frame: &mut [u8]) -> Reply
+    ensures { λ r. ⌜ answers r (now (frame .exit)) ≡ answer s m to-idle (now (frame .entry)) ⌝ }
+{
+    let refusal = idle_refusal(s, m, frame.len());
+    if refusal != 0 {
+        return Reply::Refused { refusal, mux: m };
+    }
+    lay_idle_zone(s, m, frame)
+}

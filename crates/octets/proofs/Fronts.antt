@@ -1,0 +1,60 @@
+-- The front of a buffer: what is written over it, and what stays beyond; and a list of octets.
+-- Assumes nothing.
+use mathlib.Core.Path.{_≡_, sym, ap, _∙_}
+use mathlib.Core.List.{List, [], _∷_, _++_, append-assoc}
+use Prim.Native.Nat.{ℕ, zero, suc, _+_, _-_, _/_, _^_, _≤_}
+use native.Mathlib.Nat.{mod-lt}
+use native.Mathlib.Omega.{arith}
+use lib.ListN.{replicate, length, take, drop, length-append, length-drop}
+use lib.Seq.{take-append-le, length-take-le, drop-append-le, drop-append-add, drop-drop}
+use Rattle.octets.specs.Basics.{AllOctets, octets, over, part}
+
+-- what is written over a buffer, with what stands before it, is its new front
+pub over-front : (buffer : List ℕ) (at : ℕ) (os : List ℕ) → at ≤ length buffer
+    → over buffer at os ≡ (take at buffer ++ os) ++ drop (length (take at buffer ++ os)) buffer
+unfolding over
+over-front buffer at os h = simp (append-assoc, length-append, length-take-le at buffer h)
+
+pub length-front-over : (xs buffer : List ℕ) → length xs ≤ length buffer → length (xs ++ drop (length xs) buffer) ≡ length buffer
+length-front-over xs buffer h = simp (length-append, length-drop) (omega arith)
+
+pub drop-front-over : (xs buffer : List ℕ) (n : ℕ) → length xs ≤ n → drop n (xs ++ drop (length xs) buffer) ≡ drop n buffer
+drop-front-over xs buffer n h =
+    let k : ℕ = n - length xs in
+    let e : n ≡ length xs + k = omega arith in
+    ap (λ m. drop m (xs ++ drop (length xs) buffer)) e
+    ∙ drop-append-add xs (drop (length xs) buffer) k
+    ∙ drop-drop k (length xs) buffer
+    ∙ ap (λ m. drop m buffer) (sym e)
+
+-- what stands in a list's first octets stands there in a longer list
+pub part-append : (from to : ℕ) (xs ys : List ℕ) → from ≤ to → to ≤ length xs → part from to (xs ++ ys) ≡ part from to xs
+unfolding part
+part-append from to xs ys h k =
+    let room : to - from ≤ length (drop from xs) = simp length-drop (omega arith) in
+    rw (drop-append-le from xs ys (omega arith), take-append-le (to - from) (drop from xs) ys room)
+
+-- ---- every element is an octet
+
+pub all-take : (n : ℕ) (os : List ℕ) → AllOctets os → AllOctets (take n os)
+all-take zero os small = tt
+all-take (suc n) [] small = tt
+all-take (suc n) (o ∷ os) small = (small .0, all-take n os (small .1))
+
+pub all-drop : (n : ℕ) (os : List ℕ) → AllOctets os → AllOctets (drop n os)
+all-drop zero os small = small
+all-drop (suc n) [] small = tt
+all-drop (suc n) (o ∷ os) small = all-drop n os (small .1)
+
+pub all-append : (xs ys : List ℕ) → AllOctets xs → AllOctets ys → AllOctets (xs ++ ys)
+all-append [] ys small smaller = smaller
+all-append (x ∷ xs) ys small smaller = (small .0, all-append xs ys (small .1) smaller)
+
+pub all-zeros : (n : ℕ) → AllOctets (replicate n 0)
+all-zeros zero = tt
+all-zeros (suc n) = (omega arith, all-zeros n)
+
+pub all-octets : (k n : ℕ) → AllOctets (octets k n)
+unfolding octets
+all-octets zero n = tt
+all-octets (suc k) n = (mod-lt (n / 256 ^ k) (omega arith), all-octets k n)

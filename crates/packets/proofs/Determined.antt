@@ -1,0 +1,81 @@
+-- The answers in numbers tell the answers apart: two outcomes that meet a promise are equal.
+-- Assumes nothing.
+use mathlib.Core.Path.{_≡_, refl, sym, ap, _∙_}
+use mathlib.Core.List.{List}
+use Prim.Native.Nat.{ℕ}
+use lib.Dec.{eqb}
+use Rattle.octets.specs.Basics.{pick}
+use Rattle.packets.specs.declared.Kind.{Kind}
+use Rattle.packets.specs.declared.Header.{Header}
+use Rattle.packets.specs.declared.wrapping.Wrapped.{Wrapped}
+use Rattle.packets.specs.declared.wrapping.Unwrapped.{Unwrapped}
+use Rattle.packets.specs.declared.space.SpaceRead.{SpaceRead}
+use Rattle.packets.specs.Header.{Reading, answer, version-of}
+use Rattle.packets.specs.Wrap.{Wrapping, wraps, Unwrapping, unwraps}
+use Rattle.packets.specs.Space.{SpaceReading, space-reads}
+
+-- what is told apart by numbers that can be taken back is determined by them
+told-apart {ℓ ℓ′} : {A : Type ℓ} {B : Type ℓ′} (f : A → B) (back : B → A) → ((a : A) → back (f a) ≡ a)
+    → {a b : A} {x : B} → f a ≡ x → f b ≡ x → a ≡ b
+told-apart f back undo {a} {b} p q = sym (undo a) ∙ ap back (p ∙ sym q) ∙ undo b
+
+header-back : Reading → Header
+header-back r =
+    pick (eqb (r .outcome) 0) (Header.Refused (r .refusal))
+    (pick (eqb (r .outcome) 1) Header.More
+    (pick (eqb (r .outcome) 2) Header.Damaged
+    (Header.Whole (pick (eqb (r .version) 0) Kind.Space Kind.Encapsulation) (r .key) (r .idle) (r .size) (r .total))))
+
+header-undo : (h : Header) → header-back (answer h) ≡ h
+unfolding header-back answer version-of
+header-undo (Header.Refused n) = refl
+header-undo Header.More = refl
+header-undo Header.Damaged = refl
+header-undo (Header.Whole Kind.Space key idle size total) = refl
+header-undo (Header.Whole Kind.Encapsulation key idle size total) = refl
+
+pub header-determined : {a b : Header} {x : Reading} → answer a ≡ x → answer b ≡ x → a ≡ b
+header-determined = told-apart answer header-back header-undo
+
+wrapped-back : Wrapping → Wrapped
+wrapped-back w = pick (w .accepted) (Wrapped.Total (w .total)) (Wrapped.Refused (w .refusal))
+
+wrapped-undo : (r : Wrapped) (output : List ℕ) → wrapped-back (wraps r output) ≡ r
+unfolding wrapped-back wraps
+wrapped-undo (Wrapped.Refused n) output = refl
+wrapped-undo (Wrapped.Total n) output = refl
+
+output-undo : (r : Wrapped) (output : List ℕ) → wraps r output .output ≡ output
+unfolding wraps
+output-undo (Wrapped.Refused n) output = refl
+output-undo (Wrapped.Total n) output = refl
+
+-- the answer, and the octets lent
+pub wrapped-determined : {a b : Wrapped} {p q : List ℕ} {x : Wrapping} → wraps a p ≡ x → wraps b q ≡ x → (a ≡ b) × (p ≡ q)
+wrapped-determined {a} {b} {p} {q} e f = (
+  sym (wrapped-undo a p) ∙ ap wrapped-back (e ∙ sym f) ∙ wrapped-undo b q,
+  sym (output-undo a p) ∙ ap (λ (w : Wrapping). w .output) (e ∙ sym f) ∙ output-undo b q,
+)
+
+unwrapped-back : Unwrapping → Unwrapped
+unwrapped-back u =
+    pick (u .accepted) (Unwrapped.Unit (u .protocol) (u .extension) (u .start) (u .size)) (Unwrapped.Refused (u .refusal))
+
+unwrapped-undo : (r : Unwrapped) → unwrapped-back (unwraps r) ≡ r
+unfolding unwrapped-back unwraps
+unwrapped-undo (Unwrapped.Refused n) = refl
+unwrapped-undo (Unwrapped.Unit protocol extension start size) = refl
+
+pub unwrapped-determined : {a b : Unwrapped} {x : Unwrapping} → unwraps a ≡ x → unwraps b ≡ x → a ≡ b
+unwrapped-determined = told-apart unwraps unwrapped-back unwrapped-undo
+
+space-back : SpaceReading → SpaceRead
+space-back r = pick (r .accepted) (SpaceRead.Read (r .header)) (SpaceRead.Refused (r .refusal))
+
+space-undo : (r : SpaceRead) → space-back (space-reads r) ≡ r
+unfolding space-back space-reads
+space-undo (SpaceRead.Refused n) = refl
+space-undo (SpaceRead.Read header) = refl
+
+pub space-determined : {a b : SpaceRead} {x : SpaceReading} → space-reads a ≡ x → space-reads b ≡ x → a ≡ b
+space-determined = told-apart space-reads space-back space-undo

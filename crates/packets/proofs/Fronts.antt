@@ -1,0 +1,155 @@
+-- An encapsulation header that is written says what was put into it.
+-- Assumes nothing.
+use mathlib.Core.Path.{_≡_, sym, ap, _∙_}
+use mathlib.Core.List.{List, _++_, append-assoc}
+use Prim.Native.Nat.{ℕ, _+_, _-_, _^_, _≤_, _<_}
+use native.Mathlib.Nat.{mod-eq-of-lt}
+use native.Mathlib.Omega.{arith}
+use lib.ListN.{length, take, drop, getD, length-append, List·getD-append}
+use lib.Seq.{length-take-le, getD-take, take-at, drop-at}
+use Rattle.octets.specs.Basics.{field, number, number-from, number-at, octets, placed, over, laid, laid-part}
+use Rattle.octets.proofs.Fields.{placed-lt, placed-within, placed-read, placed-above}
+use Rattle.octets.proofs.Numbers.{number-within, number-octets}
+use Rattle.octets.proofs.Written.{length-octets, laid-within, part-within, length-over, over-over}
+use Rattle.packets.specs.Packet.{whole, look, counted, header-length, packet-version, protocol-of, length-of-length}
+use Rattle.packets.specs.Front.{first-octet, second-octet, opening, half, start, front}
+use Rattle.packets.proofs.Sizes.{header-positive, header-most, header-extended, two-halves}
+use Rattle.packets.proofs.Looks.{look-encapsulation, half-read, counted-whole}
+
+-- ---- the fields of the first octets, each by the law of fields
+
+module _ (protocol lol : ℕ) where
+  abbrev versioned : ℕ
+  versioned = placed 0 5 3 7
+
+  abbrev addressed : ℕ
+  addressed = placed versioned 2 3 protocol
+
+  versioned-lt : versioned < 2 ^ 64
+  versioned-lt = placed-lt 0 5 3 7 (omega arith) (omega arith)
+
+  addressed-lt : addressed < 2 ^ 64
+  addressed-lt = placed-lt versioned 2 3 protocol versioned-lt (omega arith)
+
+  pub first-octet-lt : first-octet protocol lol < 256
+  unfolding first-octet
+  first-octet-lt =
+      placed-within addressed 0 2 lol addressed-lt (omega arith) 8
+      (placed-within versioned 2 3 protocol versioned-lt (omega arith) 8
+      (placed-within 0 5 3 7 (omega arith) (omega arith) 8 (omega arith) (omega arith)) (omega arith)) (omega arith)
+
+  pub first-version : packet-version (first-octet protocol lol) ≡ 7
+  unfolding first-octet
+  first-version =
+      placed-above addressed 0 2 lol addressed-lt (omega arith) 5 3 (omega arith)
+      ∙ placed-above versioned 2 3 protocol versioned-lt (omega arith) 5 3 (omega arith)
+      ∙ placed-read 0 5 3 7 (omega arith) (omega arith)
+
+  pub first-protocol : protocol ≤ 7 → protocol-of (first-octet protocol lol) ≡ protocol
+  unfolding first-octet
+  first-protocol h =
+      placed-above addressed 0 2 lol addressed-lt (omega arith) 2 3 (omega arith)
+      ∙ placed-read versioned 2 3 protocol versioned-lt (omega arith)
+      ∙ mod-eq-of-lt (omega arith)
+
+  pub first-lol : lol ≤ 3 → length-of-length (first-octet protocol lol) ≡ lol
+  unfolding first-octet
+  first-lol h = placed-read addressed 0 2 lol addressed-lt (omega arith) ∙ mod-eq-of-lt (omega arith)
+
+pub second-octet-lt : (extension : ℕ) → second-octet extension < 256
+unfolding second-octet
+second-octet-lt extension = placed-within 0 0 4 extension (omega arith) (omega arith) 8 (omega arith) (omega arith)
+
+pub second-extension : (extension : ℕ) → extension ≤ 15 → field (second-octet extension) 0 4 ≡ extension
+unfolding second-octet
+second-extension extension h = placed-read 0 0 4 extension (omega arith) (omega arith) ∙ mod-eq-of-lt (omega arith)
+
+-- ---- the header over a buffer
+
+module _ (protocol extension lol total : ℕ) where
+  begun : List ℕ
+  begun = take (start lol) (opening protocol extension lol)
+
+  length-begun : length begun ≡ start lol
+  unfolding begun
+  length-begun = length-take-le (start lol) (opening protocol extension lol) (omega (arith, header-most lol))
+
+  pub length-front : length (front protocol extension lol total) ≡ header-length lol
+  unfolding front begun
+  length-front = length-append begun (octets (half lol) total) ∙ omega (arith, length-begun, length-octets (half lol) total)
+
+  -- what stands before its length field, and then that
+  pub front-written : (d : List ℕ) (at : ℕ) → at + header-length lol ≤ length d
+      → laid (laid-part d at 0 (start lol) (opening protocol extension lol)) (at + start lol) (octets (half lol) total)
+      ≡ over d at (front protocol extension lol total)
+  unfolding front begun
+  front-written d at h =
+      let n : start lol - 0 ≡ start lol = omega arith in
+      let first : laid-part d at 0 (start lol) (opening protocol extension lol) ≡ over d at begun =
+      part-within d at 0 (start lol) (opening protocol extension lol) (omega arith) (omega (arith, header-most lol)) (omega arith)
+      ∙ ap (λ (k : ℕ). over d at (take k (opening protocol extension lol))) n in
+      let room : length (over d at begun) ≡ length d = length-over d at begun (omega (arith, length-begun)) in
+      ap (λ (b : List ℕ). laid b (at + start lol) (octets (half lol) total)) first
+      ∙ laid-within (over d at begun) (at + start lol) (octets (half lol) total) (omega (arith, room, length-octets (half lol) total))
+      ∙ ap (λ (k : ℕ). over (over d at begun) (at + k) (octets (half lol) total)) (sym length-begun)
+      ∙ over-over d at begun (octets (half lol) total) (omega (arith, length-begun))
+
+-- ---- the header read back, whatever stands behind it
+
+module _ (protocol extension lol total : ℕ) (rest : List ℕ) where
+  abbrev packet : List ℕ
+  packet = front protocol extension lol total ++ rest
+
+  opened : packet ≡ begun protocol extension lol total ++ (octets (half lol) total ++ rest)
+  unfolding front begun
+  opened = append-assoc (begun protocol extension lol total) (octets (half lol) total) rest
+
+  -- the octets before the length field
+  at-start : (i : ℕ) → i < start lol → getD packet i 0 ≡ getD (opening protocol extension lol) i 0
+  unfolding begun
+  at-start i h =
+      ap (λ (os : List ℕ). getD os i 0) opened
+      ∙ List·getD-append (begun protocol extension lol total) _ 0 i (omega (arith, length-begun protocol extension lol total))
+      ∙ getD-take (start lol) (opening protocol extension lol) i 0 h
+
+  pub front-first : getD packet 0 0 ≡ first-octet protocol lol
+  front-first = at-start 0 (omega (arith, header-positive lol))
+
+  pub front-second : 2 ≤ lol → getD packet 1 0 ≡ second-octet extension
+  front-second h = at-start 1 (omega (arith, header-extended lol h))
+
+  pub front-longer : header-length lol ≤ length packet
+  front-longer = omega (arith, length-append (front protocol extension lol total) rest, length-front protocol extension lol total)
+
+  -- the length field
+  pub front-total : 1 ≤ lol → total < 256 ^ half lol → number-at (half lol) (half lol) packet ≡ total
+  front-total h k =
+      let same : half lol + half lol ≡ header-length lol = two-halves lol h in
+      let behind : List ℕ = octets (half lol) total ++ rest in
+      number-within (half lol) (half lol) packet (omega (arith, front-longer))
+      ∙ ap (λ (os : List ℕ). number (take (half lol) (drop (half lol) os))) opened
+      ∙ ap (λ (os : List ℕ). number (take (half lol) os))
+      (drop-at (begun protocol extension lol total) behind (half lol) (omega (arith, length-begun protocol extension lol total)))
+      ∙ ap number (take-at (octets (half lol) total) rest (half lol) (length-octets (half lol) total))
+      ∙ number-octets (half lol) total k
+
+  -- so the header says what was put into it
+  pub front-look : (limit : ℕ) → 1 ≤ lol → lol ≤ 3 → header-length lol ≤ total → total ≤ limit → total < 256 ^ half lol
+      → look limit packet ≡ whole total
+  front-look limit least most h k m =
+      let longer : header-length lol ≤ length packet = front-longer in
+      let some : length packet ≡ 0 → ⊥ = λ z. let p = header-positive lol in absurd (omega arith) in
+      let version : packet-version (getD packet 0 0) ≡ 7 = ap packet-version front-first ∙ first-version protocol lol in
+      let length-field : length-of-length (getD packet 0 0) ≡ lol = ap length-of-length front-first ∙ first-lol protocol lol most in
+      let not-none : length-of-length (getD packet 0 0) ≡ 0 → ⊥ = λ z. absurd (omega arith) in
+      look-encapsulation limit packet some version
+      ∙ half-read limit packet (protocol-of (getD packet 0 0)) (length-of-length (getD packet 0 0)) not-none
+      ∙ ap (λ (n : ℕ). counted limit (length packet) (header-length n) (number-at (half n) (half n) packet)) length-field
+      ∙ ap (counted limit (length packet) (header-length lol)) (front-total least m)
+      ∙ counted-whole limit (length packet) (header-length lol) total longer h k
+
+-- the reserved field of the longest header is 0
+pub front-reserved : (protocol extension total : ℕ) (rest : List ℕ) → number-at 2 2 (front protocol extension 3 total ++ rest) ≡ 0
+unfolding front header-length number number-from
+front-reserved protocol extension total rest =
+    number-within 2 2 (front protocol extension 3 total ++ rest) (omega (arith, front-longer protocol extension 3 total rest))

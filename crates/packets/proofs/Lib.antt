@@ -1,0 +1,11 @@
+pub mod Sizes
+pub mod Looks
+pub mod Grown
+pub mod Readings
+pub mod Fronts
+pub mod Idles
+pub mod Wraps
+pub mod Rounds
+pub mod Spaces
+pub mod Determined
+pub mod Begun

@@ -1,0 +1,215 @@
+-- A data unit that is wrapped is well formed, has the smallest header, and is unwrapped again.
+-- Assumes nothing.
+use mathlib.Core.Path.{_≡_, refl, sym, ap, subst, _∙_}
+use mathlib.Core.Logic.{_⊎_, ⊎-elim}
+use mathlib.Core.List.{List, _++_}
+use mathlib.Core.Bool.{Bool, true, false, not}
+use Prim.Native.Nat.{ℕ, zero, suc, _+_, _-_, _^_, _≤_, _<_}
+use native.Mathlib.Omega.{arith}
+use lib.ListN.{length, getD, length-append}
+use lib.Seq.{drop-at, take-length}
+use lib.Dec.{leb, eqb}
+use borrow.Author.Tests.{leb-true, leb-false, le-leb, lt-leb, eqb-true, eqb-false}
+use Rattle.octets.specs.Basics.{pick, and, or, number-at, part, over, first}
+use Rattle.octets.proofs.Choices.{split, and-true, or-true}
+use Rattle.packets.specs.Packet.{limit-in-range, WellFormed, look, whole, packet-version, protocol-of, length-of-length, header-length}
+use Rattle.packets.specs.Front.{first-octet, front}
+use Rattle.packets.specs.Wrap.{lol-for, wrapped-total, wrapped, wrap-in-range, wrap-rows, Suits, its-lol, extension-of, reserved-of, unwrap-rows, unwrapping, run-of, RoundTrip}
+use Rattle.packets.proofs.Sizes.{header-most}
+use Rattle.packets.proofs.Readings.{formed-test}
+use Rattle.packets.proofs.Fronts.{first-version, first-protocol, first-lol, second-extension, length-front, front-first, front-second, front-look, front-reserved}
+use Rattle.packets.proofs.Wraps.{Admitted, admitted, wrapping-done, unwrapping-done}
+
+-- ---- the smallest header
+
+-- which header is chosen, and why
+data Chosen (protocol n : ℕ) : ℕ → Type 0 where
+  two : n + 2 ≤ 255 → (protocol ≡ 6 → ⊥) → Chosen protocol n 1
+  four : n + 4 ≤ 65535 → (n + 2 ≤ 255 → protocol ≡ 6) → Chosen protocol n 2
+  eight : 65535 < n + 4 → Chosen protocol n 3
+
+chosen : (protocol n : ℕ) → Chosen protocol n (lol-for protocol n)
+unfolding lol-for
+chosen protocol n = go (leb (n + 2) 255) (eqb protocol 6) (leb (n + 4) 65535) refl refl refl
+  where
+    go : (a b c : Bool) → leb (n + 2) 255 ≡ a → eqb protocol 6 ≡ b → leb (n + 4) 65535 ≡ c → Chosen protocol n (pick (and a (not b)) 1 (pick c 2 3))
+    go true true true x y z = four (leb-true _ _ z) (λ h. eqb-true _ _ y)
+    go true true false x y z = eight (leb-false _ _ z)
+    go true false c x y z = two (leb-true _ _ x) (eqb-false _ _ y)
+    go false b true x y z = four (leb-true _ _ z) (λ h. absurd (omega (arith, leb-false (n + 2) 255 x)))
+    go false b false x y z = eight (leb-false _ _ z)
+
+-- it suits the unit
+pub lol-suits : (protocol n : ℕ) → n + 8 < 256 ^ 4 → Suits protocol n (lol-for protocol n)
+unfolding header-length
+lol-suits protocol n h = go (chosen protocol n)
+  where
+    go : {lol : ℕ} → Chosen protocol n lol → Suits protocol n lol
+    go (two k other) = record { least = omega arith; most = omega arith; stated = omega arith; extended = λ e. absurd (other e) }
+    go (four k six) = record { least = omega arith; most = omega arith; stated = omega arith; extended = λ e. omega arith }
+    go (eight k) = record { least = omega arith; most = omega arith; stated = omega arith; extended = λ e. omega arith }
+
+-- and no smaller one does
+pub lol-smallest : (protocol n lol : ℕ) → Suits protocol n lol → header-length (lol-for protocol n) ≤ header-length lol
+unfolding header-length
+lol-smallest protocol n lol s = go (chosen protocol n) lol s
+  where
+    go : {k : ℕ} → Chosen protocol n k → (lol : ℕ) → Suits protocol n lol → header-length k ≤ header-length lol
+    go c zero s = absurd (omega arith)
+    go (two k other) (suc zero) s = omega arith
+    go (two k other) (suc (suc zero)) s = omega arith
+    go (two k other) (suc (suc (suc m))) s = omega arith
+    go (four k six) (suc zero) s = absurd (let e : protocol ≡ 6 = six (omega arith) in omega (arith, s .extended e))
+    go (four k six) (suc (suc zero)) s = omega arith
+    go (four k six) (suc (suc (suc m))) s = omega arith
+    go (eight k) (suc zero) s = absurd (omega arith)
+    go (eight k) (suc (suc zero)) s = absurd (omega arith)
+    go (eight k) (suc (suc (suc m))) s = omega arith
+
+-- ---- what a call that is not refused is given
+
+record Settings (limit protocol extension : ℕ) : Type 0 where
+  limited : limit-in-range limit ≡ true
+  most-limit : limit ≤ 65542
+  most-protocol : protocol ≤ 7
+  most-extension : extension ≤ 15
+  used : or (eqb extension 0) (eqb protocol 6) ≡ true
+
+settings : (limit protocol extension : ℕ) → wrap-in-range limit protocol extension ≡ true → Settings limit protocol extension
+unfolding wrap-in-range limit-in-range
+settings limit protocol extension e =
+    let a = and-true _ _ e in
+    let b = and-true _ _ (and-true (leb 1 protocol) _ (a .1) .1) in
+    let c = and-true _ _ (b .1) in
+    record {
+      limited = a .0;
+      most-limit = leb-true _ _ (and-true (leb 7 limit) (leb limit 65542) (a .0) .1);
+      most-protocol = leb-true _ _ (b .0);
+      most-extension = leb-true _ _ (c .0);
+      used = c .1;
+    }
+
+-- a rightly used extension is not refused
+fair : (none six : Bool) → or none six ≡ true → or (and (not none) (not six)) false ≡ false
+fair true six e = refl
+fair false true e = refl
+fair false false e = sym e
+
+module _ (limit protocol extension : ℕ) (unit : List ℕ) (s : Settings limit protocol extension)
+    (within : wrapped-total protocol (length unit) ≤ limit) where
+  abbrev lol : ℕ
+  lol = lol-for protocol (length unit)
+
+  abbrev total : ℕ
+  total = wrapped-total protocol (length unit)
+
+  packet : List ℕ
+  packet = wrapped protocol extension unit
+
+  suits : Suits protocol (length unit) lol
+  unfolding wrapped-total
+  suits = lol-suits protocol (length unit) (omega (arith, header-most lol))
+
+  says : look limit packet ≡ whole total
+  unfolding packet wrapped wrapped-total
+  says = front-look protocol extension lol total unit limit (suits .least) (suits .most) (omega arith) within (suits .stated)
+
+  packet-length : length packet ≡ total
+  unfolding packet wrapped wrapped-total
+  packet-length =
+      length-append (front protocol extension lol total) unit ∙ omega (arith, length-front protocol extension lol total)
+
+  packet-formed : WellFormed limit packet
+  packet-formed = says ∙ ap whole (sym packet-length)
+
+  its-first : getD packet 0 0 ≡ first-octet protocol lol
+  unfolding packet wrapped
+  its-first = front-first protocol extension lol total unit
+
+  its-protocol : protocol-of (getD packet 0 0) ≡ protocol
+  its-protocol = ap protocol-of its-first ∙ first-protocol protocol lol (s .most-protocol)
+
+  its-length : its-lol packet ≡ lol
+  its-length = ap length-of-length its-first ∙ first-lol protocol lol (suits .most)
+
+  its-extension : extension-of packet ≡ extension
+  unfolding extension-of packet wrapped
+  its-extension = split 2 lol with-one without
+    where
+      with-one : 2 ≤ lol → extension-of packet ≡ extension
+      with-one h =
+          rw (its-length, le-leb 2 lol h, front-second protocol extension lol total unit h) (second-extension extension (s .most-extension))
+
+      without : lol < 2 → extension-of packet ≡ extension
+      without h =
+          rw (its-length, lt-leb 2 lol h)
+          (⊎-elim (λ z. sym (eqb-true extension 0 z)) (λ e. absurd (let k = suits .extended (eqb-true protocol 6 e) in omega arith))
+          (or-true (eqb extension 0) (eqb protocol 6) (s .used)))
+
+  its-reserved : reserved-of packet ≡ 0
+  unfolding reserved-of packet wrapped
+  its-reserved = split 3 lol longest shorter
+    where
+      longest : 3 ≤ lol → reserved-of packet ≡ 0
+      longest h =
+          let three : lol ≡ 3 = omega (arith, suits .most) in
+          rw (its-length, le-leb 3 lol h)
+          (subst (λ (k : ℕ). number-at 2 2 (front protocol extension k total ++ unit) ≡ 0) (sym three) (front-reserved protocol extension total unit))
+
+      shorter : lol < 3 → reserved-of packet ≡ 0
+      shorter h = rw (its-length, lt-leb 3 lol h) refl
+
+  no-row : first (unwrap-rows limit packet) ≡ 0
+  unfolding unwrap-rows first
+  no-row =
+      let version : packet-version (getD packet 0 0) ≡ 7 = ap packet-version its-first ∙ first-version protocol lol in
+      rw (
+        s .limited,
+        formed-test limit packet packet-formed,
+        version,
+        its-extension,
+        its-protocol,
+        its-reserved,
+        fair (eqb extension 0) (eqb protocol 6) (s .used),
+      )
+      refl
+
+  packet-unwrapped : unwrapping limit packet
+      ≡ record { accepted = true; refusal = 0; protocol = protocol; extension = extension; start = header-length lol; size = length unit }
+  unfolding wrapped-total
+  packet-unwrapped =
+      let size : length packet - header-length lol ≡ length unit = omega (arith, packet-length) in
+      unwrapping-done limit packet no-row ∙ rw (its-protocol, its-extension, its-length, size) refl
+
+  packet-unit : run-of packet (header-length lol) (length unit) ≡ unit
+  unfolding run-of part packet wrapped wrapped-total
+  packet-unit =
+      let n : header-length lol + length unit - header-length lol ≡ length unit = omega arith in
+      rw (
+        le-leb (header-length lol + length unit) (length packet) (omega (arith, packet-length)),
+        n,
+        drop-at (front protocol extension lol total) unit (header-length lol) (length-front protocol extension lol total),
+        take-length unit,
+      )
+      refl
+
+-- a call of wrapping that is not refused, whole
+pub round-trip : (limit protocol extension : ℕ) (unit output : List ℕ)
+    → first (wrap-rows limit protocol extension (length unit) (wrapped-total protocol (length unit)) (length output)) ≡ 0
+    → RoundTrip limit protocol extension unit output
+unfolding packet over
+round-trip limit protocol extension unit output e =
+    let total : ℕ = wrapped-total protocol (length unit) in
+    let a : Admitted limit protocol extension (length unit) total (length output) =
+    admitted limit protocol extension (length unit) total (length output) e in
+    let s : Settings limit protocol extension = settings limit protocol extension (a .ranged) in
+    let long : length (wrapped protocol extension unit) ≡ total = packet-length limit protocol extension unit s (a .within) in
+    let n : 0 + length (wrapped protocol extension unit) ≡ total = omega arith in
+    record {
+      written = rw (wrapping-done limit protocol extension unit output e, n) refl;
+      long = long;
+      formed = packet-formed limit protocol extension unit s (a .within);
+      smallest = lol-smallest protocol (length unit);
+      unwrapped = packet-unwrapped limit protocol extension unit s (a .within);
+      unit-back = packet-unit limit protocol extension unit s (a .within);
+    }

@@ -1,0 +1,117 @@
+-- Wrapping: what a unit that is not refused keeps to, and what is written of it.
+-- Assumes nothing.
+use mathlib.Core.Path.{_≡_, refl, ap, _∙_}
+use mathlib.Core.List.{List, _++_}
+use mathlib.Core.Bool.{true, false, not}
+use Prim.Native.Nat.{ℕ, _+_, _-_, _≤_}
+use native.Mathlib.Omega.{arith}
+use lib.ListN.{length, take, drop, getD, length-drop}
+use lib.Seq.{take-all, take-length}
+use lib.Dec.{eqb}
+use borrow.Author.Tests.{le-leb, ltb-false, eqb-false, eq-eqb, ne-eqb, not-false}
+use Rattle.octets.specs.Basics.{first, part, over, laid-part}
+use Rattle.octets.proofs.Choices.{split, none-holds, or-false}
+use Rattle.octets.proofs.Written.{part-within, length-over, over-over}
+use Rattle.packets.specs.Packet.{whole, look, limit-in-range, well-formed, packet-version, protocol-of, header-length, size-of}
+use Rattle.packets.specs.Front.{front}
+use Rattle.packets.specs.Wrap.{lol-for, wrapped-total, wrapped, wrap-in-range, wrap-rows, wrapping, its-lol, extension-of, unwrap-rows, unwrapping, run-of, unit-of}
+use Rattle.packets.proofs.Grown.{look-size}
+use Rattle.packets.proofs.Readings.{test-formed}
+use Rattle.packets.proofs.Fronts.{length-front}
+
+-- what holds where no row does
+pub record Admitted (limit protocol extension n total room : ℕ) : Type 0 where
+  pub ranged : wrap-in-range limit protocol extension ≡ true
+  pub some : 1 ≤ n
+  pub within : total ≤ limit
+  pub roomy : total ≤ room
+
+module _ (limit protocol extension n total room : ℕ) where
+  pub admitted : first (wrap-rows limit protocol extension n total room) ≡ 0 → Admitted limit protocol extension n total room
+  unfolding wrap-rows
+  admitted e =
+      let a = none-holds 0 _ _ e in
+      let b = none-holds 7 _ _ (a .1) in
+      let d = none-holds 1 _ _ (b .1) in
+      let u = or-false _ _ (b .0) in
+      let m : n ≡ 0 → ⊥ = eqb-false n 0 (u .0) in
+      record {
+        ranged = not-false _ (a .0);
+        some = split 1 n (λ h. h) (λ h. absurd (m (omega arith)));
+        within = ltb-false limit total (u .1);
+        roomy = ltb-false room total (d .0);
+      }
+
+-- a list laid behind what was written from the front
+behind : (d a : List ℕ) (at : ℕ) (unit : List ℕ) → length a ≡ at → at + length unit ≤ length d
+    → laid-part (over d 0 a) at 0 (length unit) unit ≡ over d 0 (a ++ unit)
+behind d a at unit e h =
+    let n : length unit - 0 ≡ length unit = omega arith in
+    let room : length (over d 0 a) ≡ length d = length-over d 0 a (omega arith) in
+    let from : at ≡ 0 + length a = omega arith in
+    part-within (over d 0 a) at 0 (length unit) unit (omega arith) (omega arith) (omega arith)
+    ∙ ap (λ (k : ℕ). over (over d 0 a) at (take k unit)) n
+    ∙ ap (over (over d 0 a) at) (take-length unit)
+    ∙ ap (λ (k : ℕ). over (over d 0 a) k unit) from
+    ∙ over-over d 0 a unit (omega arith)
+
+-- the header, and then the unit
+pub unit-written : (protocol extension : ℕ) (unit output : List ℕ) → wrapped-total protocol (length unit) ≤ length output
+    → laid-part (over output 0 (front protocol extension (lol-for protocol (length unit)) (wrapped-total protocol (length unit))))
+    (header-length (lol-for protocol (length unit))) 0 (length unit) unit
+    ≡ over output 0 (wrapped protocol extension unit)
+unfolding wrapped wrapped-total
+unit-written protocol extension unit output h =
+    let lol : ℕ = lol-for protocol (length unit) in
+    let total : ℕ = wrapped-total protocol (length unit) in
+    behind output (front protocol extension lol total) (header-length lol) unit (length-front protocol extension lol total) (omega arith)
+
+module _ (limit protocol extension : ℕ) (unit output : List ℕ) where
+  abbrev total : ℕ
+  total = wrapped-total protocol (length unit)
+
+  abbrev refusal : ℕ
+  refusal = first (wrap-rows limit protocol extension (length unit) total (length output))
+
+  pub wrapping-refused : (refusal ≡ 0 → ⊥) → wrapping limit protocol extension unit output ≡ record { accepted = false; refusal = refusal; total = 0; output = output }
+  unfolding wrapping
+  wrapping-refused h = rw (ne-eqb refusal 0 h) refl
+
+  pub wrapping-done : refusal ≡ 0
+      → wrapping limit protocol extension unit output ≡ record { accepted = true; refusal = 0; total = total; output = over output 0 (wrapped protocol extension unit) }
+  unfolding wrapping
+  wrapping-done h = rw (eq-eqb refusal 0 h) refl
+
+-- ---- unwrapping
+
+module _ (limit : ℕ) (p : List ℕ) where
+  pub unwrapping-refused : (first (unwrap-rows limit p) ≡ 0 → ⊥)
+      → unwrapping limit p ≡ record { accepted = false; refusal = first (unwrap-rows limit p); protocol = 0; extension = 0; start = 0; size = 0 }
+  unfolding unwrapping
+  unwrapping-refused h = rw (ne-eqb (first (unwrap-rows limit p)) 0 h) refl
+
+  pub unwrapping-done : first (unwrap-rows limit p) ≡ 0
+      → unwrapping limit p
+      ≡ record {
+        accepted = true;
+        refusal = 0;
+        protocol = protocol-of (getD p 0 0);
+        extension = extension-of p;
+        start = header-length (its-lol p);
+        size = length p - header-length (its-lol p);
+      }
+  unfolding unwrapping
+  unwrapping-done h = rw (eq-eqb (first (unwrap-rows limit p)) 0 h) refl
+
+-- the part that an accepted call speaks of is the data unit
+pub unit-handed : (limit : ℕ) (p : List ℕ) → first (unwrap-rows limit p) ≡ 0
+    → run-of p (unwrapping limit p .start) (unwrapping limit p .size) ≡ unit-of p
+unfolding unwrap-rows run-of part unit-of size-of
+unit-handed limit p e =
+    let a = or-false (not (well-formed limit p)) (eqb (packet-version (getD p 0 0)) 0) (none-holds 7 _ _ (none-holds 0 (not (limit-in-range limit)) _ e .1) .0) in
+    let says : look limit p ≡ whole (length p) = test-formed limit p (not-false _ (a .0)) in
+    let start : ℕ = header-length (its-lol p) in
+    let header : start ≤ length p = rw (a .1) at (look-size limit p says) in
+    let end : start + (length p - start) ≡ length p = omega arith in
+    rw (unwrapping-done limit p e, end, le-leb (length p) (length p) (omega arith))
+    (take-all (length p - start) (drop start p) (omega (arith, length-drop start p)))

@@ -1,0 +1,26 @@
+-- `packets::front::first_octet` meets its contract: three fields, placed one after the other.
+-- Assumes nothing.
+use mathlib.Core.Path.{_≡_, sym, subst}
+use Prim.Native.Nat.{ℕ, _<_}
+use Rattle.packets.specs.Front.{first-octet}
+use Rattle.packets.proofs.Fronts.{first-octet-lt}
+use borrow.Author.Needs.{needs}
+use Rattle.packets.proofs.front.first_octet.Statement.{statement}
+use Rattle.packets.proofs.front.first_octet.Tie as tie
+
+-- what is placed last
+octet : (c : tie.After-placed3) → c .placed3 .result ≡ first-octet (c .before .before .before .args .protocol) (c .before .before .before .args .lol)
+unfolding first-octet
+octet c = cc
+
+cast-result : tie.Need-cast-result
+cast-result c =
+    let a = c .before .before .before .args in
+    record { fits = subst (λ (n : ℕ). n < 256) (sym (octet c)) (first-octet-lt (a .protocol) (a .lol)) }
+
+returns : tie.Need-returns
+returns c = octet c
+
+pub first-octet-spec : {M : Type 1} → statement M
+first-octet-spec =
+    tie.close (tie.spec (λ c κs. search needs) (λ c κs. search needs) (λ c κs. search needs) cast-result returns)

@@ -1,0 +1,52 @@
+-- `packets::look_on` meets its contract: at each return the tests on the way say which case of the definition holds.
+-- Assumes nothing.
+use mathlib.Core.Path.{_∙_}
+use Rattle.packets.specs.Header.{seen}
+use Rattle.packets.proofs.Looks.{look-none, look-space, look-encapsulation, look-other}
+use borrow.Author.Needs.{needs}
+use Rattle.packets.proofs.look_on.Statement.{statement}
+use Rattle.packets.proofs.look_on.Tie as tie
+
+returns : tie.Need-returns
+unfolding seen
+returns c =
+    let a = c .before .before .args in
+    cc (look-none (a .limit) (a .octets .now) (c .if1 .taken))
+
+returns-2 : tie.Need-returns-2
+returns-2 c =
+    let at-if1 = c .before .before .before .before in
+    let a = at-if1 .before .before .args in
+    cc (look-space (a .limit) (a .octets .now) (at-if1 .if1 .left) (cc))
+
+returns-3 : tie.Need-returns-3
+returns-3 c =
+    let at-if1 = c .before .before .before .before .before .before in
+    let a = at-if1 .before .before .args in
+    cc (look-encapsulation (a .limit) (a .octets .now) (at-if1 .if1 .left) (cc))
+
+returns-4 : tie.Need-returns-4
+unfolding seen
+returns-4 c =
+    let at-version = c .before .before in
+    let at-if1 = at-version .before in
+    let a = at-if1 .before .before .args in
+    let v = at-version .version .ensures in
+    cc (look-other (a .limit) (a .octets .now) (at-if1 .if1 .left) (λ e. c .before .if2 .left (v ∙ e)) (λ e. c .if3 .left (v ∙ e)))
+
+pub look-on-spec : {M : Type 1} → statement M
+look-on-spec =
+    tie.close
+    (tie.spec
+    returns
+    (λ c κs. search needs)
+    (λ c κs. search needs)
+    (λ c. search needs)
+    (λ c. search needs)
+    (λ c κs. search needs)
+    returns-2
+    (λ c κs. search needs)
+    (λ c κs. search needs)
+    (λ c κs. search needs)
+    returns-3
+    returns-4)

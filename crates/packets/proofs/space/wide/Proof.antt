@@ -1,0 +1,17 @@
+-- `packets::space::wide` meets its contract: the field is within its width.
+-- Assumes nothing.
+use mathlib.Core.Path.{sym, subst}
+use Prim.Native.Nat.{ℕ, _^_, _<_}
+use Rattle.octets.proofs.Fields.{field-within}
+use borrow.Author.Needs.{needs}
+use Rattle.packets.proofs.space.wide.Statement.{statement}
+use Rattle.packets.proofs.space.wide.Tie as tie
+
+cast-result : tie.Need-cast-result
+cast-result c =
+    let at-start = c .before in
+    let a = at-start .args in
+    record { fits = subst (λ (n : ℕ). n < 2 ^ 16) (sym (c .field .ensures)) (field-within 16 (a .word) (a .at .below) (a .at .width) (at-start .pre)) }
+
+pub wide-spec : {M : Type 1} → statement M
+wide-spec = tie.close (tie.spec (λ c κs. search needs) cast-result (λ c. search needs))

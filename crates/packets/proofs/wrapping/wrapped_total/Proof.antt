@@ -1,0 +1,19 @@
+-- `packets::wrapping::wrapped_total` meets its contract: the unit and its header.
+-- Assumes nothing.
+use native.Mathlib.Omega.{arith}
+use Rattle.packets.specs.Wrap.{wrapped-total}
+use Rattle.packets.proofs.Sizes.{header-most}
+use borrow.Author.Needs.{needs}
+use Rattle.packets.proofs.wrapping.wrapped_total.Statement.{statement}
+use Rattle.packets.proofs.wrapping.wrapped_total.Tie as tie
+
+add-result : tie.Need-add-result
+add-result c = omega (arith, header-most (c .before .lol-for .result), c .before .before .before .good)
+
+returns : tie.Need-returns
+unfolding wrapped-total
+returns c = cc
+
+pub wrapped-total-spec : {M : Type 1} → statement M
+wrapped-total-spec =
+    tie.close (tie.spec (λ c κs. search needs) (λ c κs. search needs) add-result returns)

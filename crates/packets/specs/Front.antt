@@ -1,0 +1,29 @@
+-- The header of an encapsulation packet, as it is written.
+use Prim.Native.Nat.{ℕ, _-_, _/_}
+use mathlib.Core.List.{List, [], _∷_, _++_}
+use lib.ListN.{take}
+use Rattle.octets.specs.Basics.{octets, placed}
+use Rattle.packets.specs.Packet.{header-length}
+
+-- the first octet: version 111, the protocol and the length-of-length
+unfoldable pub first-octet : ℕ → ℕ → ℕ
+first-octet protocol lol = placed (placed (placed 0 5 3 7) 2 3 protocol) 0 2 lol
+
+-- the second octet of a header that has an extension: user 0, and the extension
+unfoldable pub second-octet : ℕ → ℕ
+second-octet extension = placed 0 0 4 extension
+
+-- the first half of the longest header, user and reserved bits 0
+abbrev pub opening : ℕ → ℕ → ℕ → List ℕ
+opening protocol extension lol = first-octet protocol lol ∷ second-octet extension ∷ 0 ∷ 0 ∷ []
+
+-- how many octets of a header are its length field, and how many stand before it
+abbrev pub half : ℕ → ℕ
+half lol = header-length lol / 2
+
+abbrev pub start : ℕ → ℕ
+start lol = header-length lol - half lol
+
+-- the header
+unfoldable pub front : ℕ → ℕ → ℕ → ℕ → List ℕ
+front protocol extension lol total = take (start lol) (opening protocol extension lol) ++ octets (half lol) total

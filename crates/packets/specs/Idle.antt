@@ -1,0 +1,21 @@
+-- The idle packet that fills the rest of a zone.
+use Prim.Native.Nat.{ℕ, _-_}
+use mathlib.Core.List.{List, [], _∷_, _++_}
+use lib.ListN.{length, replicate}
+use lib.Dec.{leb, eqb}
+use Rattle.octets.specs.Basics.{pick, and, octets, laid}
+
+-- its header, for r octets
+unfoldable pub idle-header : ℕ → List ℕ
+idle-header r = pick (eqb r 1) (0xE0 ∷ []) (pick (leb r 255) (0xE1 ∷ r ∷ []) (0xE2 ∷ 0 ∷ octets 2 r))
+
+unfoldable pub idle-packet : ℕ → ℕ → List ℕ
+idle-packet fill r = idle-header r ++ replicate (r - length (idle-header r)) fill
+
+-- the length-of-length that the header has
+unfoldable pub idle-lol : ℕ → ℕ
+idle-lol r = pick (eqb r 1) 0 (pick (leb r 255) 1 2)
+
+-- the packet written over `output` from `at`, where it fits and its header can state its length
+unfoldable pub idle-laid : List ℕ → ℕ → ℕ → ℕ → List ℕ
+idle-laid output at r fill = pick (and (leb 1 r) (leb r 65535)) (laid output at (idle-packet fill r)) output

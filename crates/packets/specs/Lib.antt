@@ -1,0 +1,6 @@
+pub mod Packet
+pub mod Header
+pub mod Front
+pub mod Idle
+pub mod Wrap
+pub mod Space

@@ -1,0 +1,148 @@
+-- Wrapping a data unit in an encapsulation packet, and unwrapping it.
+use mathlib.Core.Path.{_≡_}
+use Prim.Native.Nat.{ℕ, _+_, _-_, _/_, _^_, _≤_, _<_}
+use mathlib.Core.List.{List, [], _∷_, _++_}
+use mathlib.Core.Bool.{Bool, true, false, not}
+use lib.ListN.{length, getD, drop}
+use lib.Dec.{leb, ltb, eqb}
+use Rattle.octets.specs.Basics.{pick, and, or, field, number-at, part, over, Row, row, first}
+use Rattle.packets.specs.Packet.{limit-in-range, WellFormed, well-formed, packet-version, protocol-of, length-of-length, header-length}
+use Rattle.packets.specs.Front.{front}
+use Rattle.packets.specs.declared.wrapping.Wrapped.{Wrapped}
+use Rattle.packets.specs.declared.wrapping.Unwrapped.{Unwrapped}
+
+-- ---- wrapping
+
+-- the length-of-length of the smallest header that fits a data unit of n octets; protocol 6 needs four octets at least
+unfoldable pub lol-for : ℕ → ℕ → ℕ
+lol-for protocol n =
+    pick (and (leb (n + 2) 255) (not (eqb protocol 6))) 1
+    (pick (leb (n + 4) 65535) 2 3)
+
+unfoldable pub wrapped-total : ℕ → ℕ → ℕ
+wrapped-total protocol n = n + header-length (lol-for protocol n)
+
+-- the packet
+unfoldable pub wrapped : ℕ → ℕ → List ℕ → List ℕ
+wrapped protocol extension unit =
+    let n : ℕ = length unit in
+    front protocol extension (lol-for protocol n) (wrapped-total protocol n) ++ unit
+
+-- a protocol from 1 to 7, and an extension to 15, which is 0 without protocol 6
+unfoldable pub wrap-in-range : ℕ → ℕ → ℕ → Bool
+wrap-in-range limit protocol extension =
+    and (limit-in-range limit)
+    (and (leb 1 protocol)
+    (and (leb protocol 7)
+    (and (leb extension 15) (or (eqb extension 0) (eqb protocol 6)))))
+
+-- the refusals, for a unit of n octets, its total and the room for it
+unfoldable pub wrap-rows : ℕ → ℕ → ℕ → ℕ → ℕ → ℕ → List Row
+wrap-rows limit protocol extension n total room =
+    row 1 (not (wrap-in-range limit protocol extension))
+    ∷ row 8 (or (eqb n 0) (ltb limit total))
+    ∷ row 2 (ltb room total)
+    ∷ []
+
+-- what comes of a call: whether it is accepted; the refusal, or 0; the total, 0 on a refusal; and the lent output
+pub record Wrapping : Type 0 where
+  pub accepted : Bool
+  pub refusal : ℕ
+  pub total : ℕ
+  pub output : List ℕ
+
+unfoldable pub wrapping : ℕ → ℕ → ℕ → List ℕ → List ℕ → Wrapping
+wrapping limit protocol extension unit output =
+    let total : ℕ = wrapped-total protocol (length unit) in
+    let refusal : ℕ = first (wrap-rows limit protocol extension (length unit) total (length output)) in
+    pick (eqb refusal 0)
+    (record { accepted = true; refusal = 0; total = total; output = over output 0 (wrapped protocol extension unit) })
+    (record { accepted = false; refusal = refusal; total = 0; output = output })
+
+-- an answer, and the output as it is left
+unfoldable pub wraps : Wrapped → List ℕ → Wrapping
+wraps (Wrapped.Refused refusal) output = record { accepted = false; refusal = refusal; total = 0; output = output }
+wraps (Wrapped.Total total) output = record { accepted = true; refusal = 0; total = total; output = output }
+
+-- a header suits a data unit of n octets: its length field holds the total, and for protocol 6 it has the extension
+pub record Suits (protocol n lol : ℕ) : Type 0 where
+  pub least : 1 ≤ lol
+  pub most : lol ≤ 3
+  pub stated : n + header-length lol < 256 ^ (header-length lol / 2)
+  pub extended : protocol ≡ 6 → 2 ≤ lol
+
+-- ---- unwrapping
+
+abbrev pub its-lol : List ℕ → ℕ
+its-lol p = length-of-length (getD p 0 0)
+
+-- the extension and the reserved field of a header, 0 where it has none
+unfoldable pub extension-of : List ℕ → ℕ
+extension-of p = pick (leb 2 (its-lol p)) (field (getD p 1 0) 0 4) 0
+
+unfoldable pub reserved-of : List ℕ → ℕ
+reserved-of p = pick (leb 3 (its-lol p)) (number-at 2 2 p) 0
+
+-- the data unit
+unfoldable pub unit-of : List ℕ → List ℕ
+unit-of p = drop (header-length (its-lol p)) p
+
+unfoldable pub unwrap-rows : ℕ → List ℕ → List Row
+unwrap-rows limit p =
+    row 1 (not (limit-in-range limit))
+    ∷ row 8 (or (not (well-formed limit p)) (eqb (packet-version (getD p 0 0)) 0))
+    ∷ row 6 (or (and (not (eqb (extension-of p) 0)) (not (eqb (protocol-of (getD p 0 0)) 6))) (not (eqb (reserved-of p) 0)))
+    ∷ []
+
+-- what is answered: whether the call is accepted; the refusal, or 0; and the protocol, the extension, where the unit starts and
+-- how long it is, all 0 on a refusal
+pub record Unwrapping : Type 0 where
+  pub accepted : Bool
+  pub refusal : ℕ
+  pub protocol : ℕ
+  pub extension : ℕ
+  pub start : ℕ
+  pub size : ℕ
+
+unfoldable pub unwrapping : ℕ → List ℕ → Unwrapping
+unwrapping limit p =
+    let refusal : ℕ = first (unwrap-rows limit p) in
+    let start : ℕ = header-length (its-lol p) in
+    pick (eqb refusal 0)
+    (record { accepted = true; refusal = 0; protocol = protocol-of (getD p 0 0); extension = extension-of p; start = start; size = length p - start })
+    (record { accepted = false; refusal = refusal; protocol = 0; extension = 0; start = 0; size = 0 })
+
+-- an answer in numbers
+unfoldable pub unwraps : Unwrapped → Unwrapping
+unwraps (Unwrapped.Refused refusal) = record { accepted = false; refusal = refusal; protocol = 0; extension = 0; start = 0; size = 0 }
+unwraps (Unwrapped.Unit protocol extension start size) = record { accepted = true; refusal = 0; protocol = protocol; extension = extension; start = start; size = size }
+
+-- the `size` octets from `start`; none where they run past the end
+unfoldable pub run-of : List ℕ → ℕ → ℕ → List ℕ
+run-of p start size = pick (leb (start + size) (length p)) (part start (start + size) p) []
+
+-- the part of a packet that an answer speaks of, empty on a refusal
+unfoldable pub unit-part : List ℕ → Unwrapped → List ℕ
+unit-part p (Unwrapped.Refused refusal) = []
+unit-part p (Unwrapped.Unit protocol extension start size) = run-of p start size
+
+-- ---- what wrapping and unwrapping keep to, for a call of wrapping that is not refused
+
+pub record RoundTrip (limit protocol extension : ℕ) (unit output : List ℕ) : Type 0 where
+  -- the total's first octets of the output are the packet, and the others stay
+  pub written : wrapping limit protocol extension unit output .output
+      ≡ wrapped protocol extension unit ++ drop (wrapped-total protocol (length unit)) output
+  pub long : length (wrapped protocol extension unit) ≡ wrapped-total protocol (length unit)
+  pub formed : WellFormed limit (wrapped protocol extension unit)
+  pub smallest : (lol : ℕ) → Suits protocol (length unit) lol → header-length (lol-for protocol (length unit)) ≤ header-length lol
+  -- unwrapping it gives protocol and extension back, and the part that it speaks of is the unit
+  pub unwrapped : unwrapping limit (wrapped protocol extension unit)
+      ≡ record {
+        accepted = true;
+        refusal = 0;
+        protocol = protocol;
+        extension = extension;
+        start = header-length (lol-for protocol (length unit));
+        size = length unit;
+      }
+  pub unit-back : run-of (wrapped protocol extension unit) (header-length (lol-for protocol (length unit))) (length unit) ≡ unit

@@ -1,0 +1,247 @@
+// Packets: the one header reader, and the test for well-formed packets. Its modules write headers, wrap data units and unwrap them.
+ghost use mathlib.Core.Path.{_≡_};
+ghost use Prim.Native.Nat.{_/_, _≤_};
+ghost use lib.ListN.{length, getD};
+ghost use Rattle.octets.specs.Basics.{and, read, number-at};
+ghost use Rattle.packets.specs.Packet.{whole, limit-in-range, apid, OfAKind, packet-version, protocol-of, length-of-length, header-length, sized, counted, encapsulation, look, well-formed};
+ghost use Rattle.packets.specs.Header.{seen, told, reading, answer};
+use octets::Place;
+
+mod front;
+mod space;
+mod wrapping;
+
+pub use front::write_idle;
+pub use space::SpaceHeader;
+pub use space::SpaceRead;
+pub use space::read_space;
+pub use space::write_space;
+pub use wrapping::Unwrapped;
+pub use wrapping::Wrapped;
+pub use wrapping::unit_part;
+pub use wrapping::unwrap;
+pub use wrapping::wrap;
+
+// The fields of a packet's first octet, and of a space packet's first two.
+const VERSION: Place = Place { below: 5, width: 3 };
+
+const PROTOCOL: Place = Place { below: 2, width: 3 };
+
+const LENGTH_OF_LENGTH: Place = Place { below: 0, width: 2 };
+
+const APID: Place = Place {
+    below: 0,
+    width: 11,
+};
+
+// The extension, in the second octet of an encapsulation packet's header.
+const EXTENSION: Place = Place { below: 0, width: 4 };
+
+// The kinds of packet.
+pub enum Kind {
+    Space,
+    Encapsulation,
+}
+
+// What the first octets of a packet tell.
+pub enum Header {
+    // The limit is out of range.
+    Refused {
+        refusal: u8,
+    },
+    // The header is not whole yet.
+    More,
+    // No packet begins so.
+    Damaged,
+    // The packet's kind, its APID or protocol, whether it is idle, its header's length and its own.
+    Whole {
+        kind: Kind,
+        key: u16,
+        idle: bool,
+        size: usize,
+        total: usize,
+    },
+}
+
+// What the first octets of a packet say of its length.
+enum Seen {
+    More,
+    Damaged,
+    Whole { total: usize },
+}
+
+// The limits that can be set.
+fn in_range(limit: usize) -> bool
+    ensures { λ r. ⌜ r ≡ limit-in-range limit ⌝ }
+{
+    (7 <= limit) & (limit <= 65542)
+}
+
+// The length of an encapsulation packet's header for its length-of-length field.
+fn header_length(lol: u8) -> usize
+    ensures { λ r. ⌜ r ≡ header-length lol ⌝ }
+{
+    match lol {
+        0 => 1,
+        1 => 2,
+        2 => 4,
+        _ => 8,
+    }
+}
+
+// A header of `size` octets is whole and states `total`.
+fn sized(limit: usize, size: usize, total: usize) -> Seen
+    ensures { λ r. ⌜ seen r ≡ sized limit size total ⌝ }
+{
+    if total < size {
+        return Seen::Damaged;
+    }
+    if limit < total {
+        return Seen::Damaged;
+    }
+    Seen::Whole { total }
+}
+
+// The same of a header of which `len` octets are there.
+fn counted(limit: usize, len: usize, size: usize, total: usize) -> Seen
+    ensures { λ r. ⌜ seen r ≡ counted limit len size total ⌝ }
+{
+    if len < size {
+        return Seen::More;
+    }
+    sized(limit, size, total)
+}
+
+// The length that such a header states in its second half; 0 where it is not all there.
+fn stated(octets: &[u8], lol: u8) -> usize
+    ensures { λ r. ⌜ r ≡ number-at (header-length lol / 2) (header-length lol / 2) (now (octets .entry)) ⌝ }
+{
+    match lol {
+        0 => 0,
+        1 => octets::octet(octets, 1) as usize,
+        2 => octets::number2(octets, 2) as usize,
+        _ => octets::number4(octets, 4) as usize,
+    }
+}
+
+// What an encapsulation packet's first octets say.
+fn encapsulation(limit: usize, protocol: u8, lol: u8, octets: &[u8]) -> Seen
+    ensures { λ r. ⌜ seen r ≡ encapsulation limit protocol lol (now (octets .entry)) ⌝ }
+{
+    if lol != 0 {
+        return counted(limit, octets.len(), header_length(lol), stated(octets, lol));
+    }
+    if protocol == 0 {
+        return Seen::Whole { total: 1 };
+    }
+    Seen::Damaged
+}
+
+// A field of one of a packet's octets.
+fn octet_field(octets: &[u8], index: usize, at: Place) -> u8
+    ensures { λ r. ⌜ r ≡ read at (getD (now (octets .entry)) index 0) ⌝ }
+{
+    octets::field(octets::octet(octets, index) as u64, at) as u8
+}
+
+// The fields of the first octet.
+fn version(octets: &[u8]) -> u8
+    ensures { λ r. ⌜ r ≡ packet-version (getD (now (octets .entry)) 0 0) ⌝ }
+{
+    octet_field(octets, 0, VERSION)
+}
+
+fn protocol(octets: &[u8]) -> u8
+    ensures { λ r. ⌜ r ≡ protocol-of (getD (now (octets .entry)) 0 0) ⌝ }
+{
+    octet_field(octets, 0, PROTOCOL)
+}
+
+fn length_of_length(octets: &[u8]) -> u8
+    ensures { λ r. ⌜ r ≡ length-of-length (getD (now (octets .entry)) 0 0) ⌝ }
+{
+    octet_field(octets, 0, LENGTH_OF_LENGTH)
+}
+
+// A space packet's APID.
+fn apid(octets: &[u8]) -> u16
+    requires { ⌜ 2 ≤ length (now octets) ⌝ }
+    ensures { λ r. ⌜ r ≡ apid (now (octets .entry)) ⌝ }
+{
+    octets::field(octets::number2(octets, 0) as u64, APID) as u16
+}
+
+// What the first octets of a packet say of its length, as many as there are.
+fn look_on(limit: usize, octets: &[u8]) -> Seen
+    ensures { λ r. ⌜ seen r ≡ look limit (now (octets .entry)) ⌝ }
+{
+    let len = octets.len();
+    if len == 0 {
+        return Seen::More;
+    }
+    let version = version(octets);
+    if version == 0 {
+        return counted(limit, len, 6, octets::number2(octets, 4) as usize + 7);
+    }
+    if version == 7 {
+        return encapsulation(limit, protocol(octets), length_of_length(octets), octets);
+    }
+    Seen::Damaged
+}
+
+// What a whole header tells of its packet.
+fn tell(octets: &[u8], total: usize) -> Header
+    requires { ⌜ OfAKind (now octets) ⌝ }
+    ensures { λ r. ⌜ answer r ≡ told (now (octets .entry)) (whole total) ⌝ }
+{
+    if version(octets) == 0 {
+        let key = apid(octets);
+        return Header::Whole {
+            kind: Kind::Space,
+            key,
+            idle: key == 2047,
+            size: 6,
+            total,
+        };
+    }
+    let key = protocol(octets);
+    Header::Whole {
+        kind: Kind::Encapsulation,
+        key: key as u16,
+        idle: key == 0,
+        size: header_length(length_of_length(octets)),
+        total,
+    }
+}
+
+// What octets that begin a packet tell, as many as there are: `limit` is the greatest packet.
+pub fn read_header(limit: usize, octets: &[u8]) -> Header
+    ensures { λ r. ⌜ answer r ≡ reading limit (now (octets .entry)) ⌝ }
+{
+    if !in_range(limit) {
+        return Header::Refused { refusal: 1 };
+    }
+    match look_on(limit, octets) {
+        Seen::More => Header::More,
+        Seen::Damaged => Header::Damaged,
+        Seen::Whole { total } => tell(octets, total),
+    }
+}
+
+// Whether a packet's header says the packet's own length.
+fn formed(limit: usize, p: &[u8]) -> bool
+    ensures { λ r. ⌜ r ≡ well-formed limit (now (p .entry)) ⌝ }
+{
+    match look_on(limit, p) {
+        Seen::More => false,
+        Seen::Damaged => false,
+        Seen::Whole { total } => total == p.len(),
+    }
+}
+
+// The same for a limit that is in range; no packet is well formed at any other.
+pub fn well_formed(limit: usize, p: &[u8]) -> bool
+    ensures { λ r. ⌜ r ≡ and (limit-in-range limit) (well-formed limit (now (p .entry))) ⌝ }
+{
+    in_range(limit) & formed(limit, p)
+}

@@ -1,0 +1,130 @@
+// Primary headers of space packets, read and written field by field.
+ghost use mathlib.Core.Path.{_≡_};
+ghost use Prim.Native.Nat.{_≤_};
+ghost use Rattle.octets.specs.Basics.{read};
+ghost use Rattle.packets.specs.Space.{space-word, space-in-range, space-reading, space-reads, space-writes, space-writing};
+use octets::Place;
+
+// The seven fields.
+pub struct SpaceHeader {
+    pub version: u8,
+    pub packet_type: u8,
+    pub secondary: u8,
+    pub apid: u16,
+    pub flags: u8,
+    pub count: u16,
+    pub length: u16,
+}
+
+// What comes of reading a header.
+pub enum SpaceRead {
+    Refused { refusal: u8 },
+    Read { header: SpaceHeader },
+}
+
+// The fields' places in the header's 48 bits.
+const VERSION: Place = Place {
+    below: 45,
+    width: 3,
+};
+
+const TYPE: Place = Place {
+    below: 44,
+    width: 1,
+};
+
+const SECONDARY: Place = Place {
+    below: 43,
+    width: 1,
+};
+
+const APID: Place = Place {
+    below: 32,
+    width: 11,
+};
+
+const FLAGS: Place = Place {
+    below: 30,
+    width: 2,
+};
+
+const COUNT: Place = Place {
+    below: 16,
+    width: 14,
+};
+
+const LENGTH: Place = Place {
+    below: 0,
+    width: 16,
+};
+
+// A field of eight bits at most.
+fn narrow(word: u64, at: Place) -> u8
+    requires { ⌜ at .width ≤ 8 ⌝ }
+    ensures { λ r. ⌜ r ≡ read at word ⌝ }
+{
+    octets::field(word, at) as u8
+}
+
+// A field of sixteen bits at most.
+fn wide(word: u64, at: Place) -> u16
+    requires { ⌜ at .width ≤ 16 ⌝ }
+    ensures { λ r. ⌜ r ≡ read at word ⌝ }
+{
+    octets::field(word, at) as u16
+}
+
+// Reads the header in the first six octets; fewer are refused.
+pub fn read_space(octets: &[u8]) -> SpaceRead
+    ensures { λ r. ⌜ space-reads r ≡ space-reading (now (octets .entry)) ⌝ }
+{
+    if octets.len() < 6 {
+        return SpaceRead::Refused { refusal: 2 };
+    }
+    let word = octets::number6(octets, 0);
+    let header = SpaceHeader {
+        version: narrow(word, VERSION),
+        packet_type: narrow(word, TYPE),
+        secondary: narrow(word, SECONDARY),
+        apid: wide(word, APID),
+        flags: narrow(word, FLAGS),
+        count: wide(word, COUNT),
+        length: wide(word, LENGTH),
+    };
+    SpaceRead::Read { header }
+}
+
+// Whether each field is within its width; a length always is.
+fn in_range(h: SpaceHeader) -> bool
+    ensures { λ r. ⌜ r ≡ space-in-range h ⌝ }
+{
+    (h.version <= 7)
+        & ((h.packet_type <= 1)
+            & ((h.secondary <= 1) & ((h.apid <= 2047) & ((h.flags <= 3) & (h.count <= 16383)))))
+}
+
+// The header as one word of 48 bits.
+fn word_of(h: SpaceHeader) -> u64
+    ensures { λ r. ⌜ r ≡ space-word h ⌝ }
+{
+    let word = octets::placed(0, VERSION, h.version as u64);
+    let word = octets::placed(word, TYPE, h.packet_type as u64);
+    let word = octets::placed(word, SECONDARY, h.secondary as u64);
+    let word = octets::placed(word, APID, h.apid as u64);
+    let word = octets::placed(word, FLAGS, h.flags as u64);
+    let word = octets::placed(word, COUNT, h.count as u64);
+    octets::placed(word, LENGTH, h.length as u64)
+}
+
+// Writes a header over the first six octets, and answers 0; or answers the refusal, and writes nothing.
+pub fn write_space(h: SpaceHeader, out: &mut [u8]) -> u8
+    ensures { λ r. ⌜ space-writes r (now (out .exit)) ≡ space-writing h (now (out .entry)) ⌝ }
+{
+    let room = octets::refused(out.len() < 6, 2, 0);
+    let refusal = octets::refused(!in_range(h), 1, room);
+    if refusal != 0 {
+        return refusal;
+    }
+    octets::put(out, 0, 6, word_of(h));
+    0
+}

@@ -1,0 +1,169 @@
+// Wrapping a data unit in an encapsulation packet, and unwrapping it.
+ghost use mathlib.Core.Path.{_≡_};
+ghost use lib.ListN.{length};
+ghost use Rattle.octets.specs.Basics.{first};
+ghost use Rattle.packets.specs.Wrap.{lol-for, wrapped-total, wrap-in-range, wrap-rows, wrapping, wraps, extension-of, reserved-of, unwrap-rows, unwrapping, unwraps, run-of, unit-part};
+use super::EXTENSION;
+use super::formed;
+use super::front::write_front;
+use super::header_length;
+use super::in_range;
+use super::length_of_length;
+use super::octet_field;
+use super::protocol;
+use super::version;
+
+// What comes of wrapping a data unit.
+pub enum Wrapped {
+    Refused { refusal: u8 },
+    // The packet's length.
+    Total { total: usize },
+}
+
+// What comes of unwrapping a packet.
+pub enum Unwrapped {
+    Refused {
+        refusal: u8,
+    },
+    // Its protocol and extension, and the part of the packet that is the data unit.
+    Unit {
+        protocol: u8,
+        extension: u8,
+        start: usize,
+        size: usize,
+    },
+}
+
+// The length-of-length of the smallest header that fits a data unit of n octets: two octets up to a total of 255, four up to 65,535.
+fn lol_for(protocol: u8, n: usize) -> u8
+    ensures { λ r. ⌜ r ≡ lol-for protocol n ⌝ }
+{
+    if (n <= 253) & (protocol != 6) {
+        return 1;
+    }
+    if n <= 65531 { 2 } else { 3 }
+}
+
+// The packet's length.
+fn wrapped_total(protocol: u8, unit: &[u8]) -> usize
+    ensures { λ r. ⌜ r ≡ wrapped-total protocol (length (now (unit .entry))) ⌝ }
+{
+    unit.len() + header_length(lol_for(protocol, unit.len()))
+}
+
+// A protocol from 1 to 7 and an extension up to 15, which is 0 without protocol 6.
+fn wrap_in_range(limit: usize, protocol: u8, extension: u8) -> bool
+    ensures { λ r. ⌜ r ≡ wrap-in-range limit protocol extension ⌝ }
+{
+    in_range(limit)
+        & ((1 <= protocol)
+            & ((protocol <= 7) & ((extension <= 15) & ((extension == 0) | (protocol == 6)))))
+}
+
+// The first refusal that holds, for a data unit of n octets and a packet of `total`; 0 where none does.
+fn wrap_refusal(
+    limit: usize,
+    protocol: u8,
+    extension: u8,
+    n: usize,
+    total: usize,
+    room: usize,
+) -> u8
+    ensures { λ r. ⌜ r ≡ first (wrap-rows limit protocol extension n total room) ⌝ }
+{
+    let of_room = octets::refused(room < total, 2, 0);
+    let of_unit = octets::refused((n == 0) | (limit < total), 8, of_room);
+    octets::refused(!wrap_in_range(limit, protocol, extension), 1, of_unit)
+}
+
+// Wraps a data unit into `out`: the packet's octets from the front, and nothing on a refusal.
+pub fn wrap(limit: usize, protocol: u8, extension: u8, unit: &[u8], out: &mut [u8]) -> Wrapped
+    ensures { λ r. ⌜ wraps r (now (out .exit)) ≡ wrapping limit protocol extension (now (unit .entry)) (now (out .entry)) ⌝ }
+{
+    let n = unit.len();
+    let total = wrapped_total(protocol, unit);
+    let refusal = wrap_refusal(limit, protocol, extension, n, total, out.len());
+    if refusal != 0 {
+        return Wrapped::Refused { refusal };
+    }
+    let lol = lol_for(protocol, n);
+    write_front(out, 0, protocol, extension, lol, total);
+    octets::lay(out, header_length(lol), unit, 0, n);
+    Wrapped::Total { total }
+}
+
+// The extension of a packet's header; 0 where it has none.
+fn extension(p: &[u8]) -> u8
+    ensures { λ r. ⌜ r ≡ extension-of (now (p .entry)) ⌝ }
+{
+    if length_of_length(p) < 2 {
+        return 0;
+    }
+    octet_field(p, 1, EXTENSION)
+}
+
+// The reserved field of a packet's header; 0 where it has none.
+fn reserved(p: &[u8]) -> u16
+    ensures { λ r. ⌜ r ≡ reserved-of (now (p .entry)) ⌝ }
+{
+    if length_of_length(p) < 3 {
+        return 0;
+    }
+    octets::number2(p, 2)
+}
+
+// The first refusal that holds; 0 where none does.
+fn unwrap_refusal(limit: usize, p: &[u8]) -> u8
+    ensures { λ r. ⌜ r ≡ first (unwrap-rows limit (now (p .entry))) ⌝ }
+{
+    let misused = (extension(p) != 0) & (protocol(p) != 6);
+    let of_header = octets::refused(misused | (reserved(p) != 0), 6, 0);
+    let of_packet = octets::refused(!formed(limit, p) | (version(p) == 0), 8, of_header);
+    octets::refused(!in_range(limit), 1, of_packet)
+}
+
+// Unwraps an encapsulation packet: `unit_part` hands back the data unit.
+pub fn unwrap(limit: usize, p: &[u8]) -> Unwrapped
+    ensures { λ r. ⌜ unwraps r ≡ unwrapping limit (now (p .entry)) ⌝ }
+{
+    let refusal = unwrap_refusal(limit, p);
+    if refusal != 0 {
+        return Unwrapped::Refused { refusal };
+    }
+    let start = header_length(length_of_length(p));
+    Unwrapped::Unit {
+        protocol: protocol(p),
+        extension: extension(p),
+        start,
+        size: octets::less(p.len(), start),
+    }
+}
+
+// The `size` octets from `start`; none where they run past the end.
+fn run<'a>(p: &'a [u8], start: usize, size: usize) -> &'a [u8]
+    ensures { λ r. ⌜ now r ≡ run-of (now (p .entry)) start size ⌝ }
+{
+    if p.len() < start {
+        return &p[0..0];
+    }
+    if p.len() - start < size {
+        return &p[0..0];
+    }
+    let end = start + size;
+    &p[start..end]
+}
+
+// The data unit that an answer of `unwrap` speaks of, as a part of the lent packet.
+pub fn unit_part<'a>(p: &'a [u8], u: Unwrapped) -> &'a [u8]
+    ensures { λ r. ⌜ now r ≡ unit-part (now (p .entry)) u ⌝ }
+{
+    match u {
+        Unwrapped::Refused { refusal: _ } => &p[0..0],
+        Unwrapped::Unit {
+            protocol: _,
+            extension: _,
+            start,
+            size,
+        } => run(p, start, size),
+    }
+}
