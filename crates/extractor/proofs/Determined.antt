@@ -1,0 +1,68 @@
+-- The answers in numbers tell the answers apart: two outcomes that meet a promise are equal.
+-- Assumes nothing.
+use mathlib.Core.Path.{_≡_, refl, sym, ap, _∙_}
+use mathlib.Core.List.{List}
+use mathlib.Core.Bool.{true, false}
+use Prim.Native.Nat.{ℕ}
+use lib.Dec.{eqb}
+use Rattle.octets.specs.Basics.{pick}
+use Rattle.octets.proofs.Tests.{told-apart}
+use Rattle.extractor.specs.Answers.{EnterNumbers, EnterSaid, entered-numbers, enter-says, StepNumbers, StepSaid, found-numbers, step-says}
+use Rattle.extractor.specs.declared.Entered.{Entered}
+use Rattle.extractor.specs.declared.Entering.{Entering}
+use Rattle.extractor.specs.declared.Found.{Found}
+use Rattle.extractor.specs.declared.Move.{Move}
+
+-- ---- entering
+
+entered-back : EnterNumbers → Entered
+entered-back n =
+    pick (eqb (n .outcome) 0) (Entered.Refused (n .refusal))
+    (Entered.Taken (record { count = n .count; replay = n .replay; lost = n .lost; dropped = n .dropped; reason = n .reason }))
+
+entered-undo : (e : Entered) → entered-back (entered-numbers e) ≡ e
+unfolding entered-back entered-numbers
+entered-undo (Entered.Refused n) = refl
+entered-undo (Entered.Taken e) = refl
+
+entering-back : EnterSaid → Entering
+entering-back a = record { entered = entered-back (a .answer); next = a .next }
+
+entering-undo : (r : Entering) → entering-back (enter-says r) ≡ r
+unfolding entering-back
+entering-undo r = ap (λ (e : Entered). record { entered = e; next = r .next }) (entered-undo (r .entered))
+
+pub enter-determined : {a b : Entering} {x : EnterSaid} → enter-says a ≡ x → enter-says b ≡ x → a ≡ b
+enter-determined = told-apart enter-says entering-back entering-undo
+
+-- ---- a step
+
+found-back : StepNumbers → Found
+found-back n =
+    pick (eqb (n .outcome) 0) (Found.Refused (n .refusal))
+    (pick (eqb (n .outcome) 3) Found.Damaged
+    (pick (eqb (n .outcome) 4) Found.Spent
+    (pick (eqb (n .place) 1)
+    (Found.InFrame (n .start) (n .size) (eqb (n .outcome) 2))
+    (Found.InStore (n .size) (eqb (n .outcome) 2)))))
+
+found-undo : (f store : List ℕ) (a : Found) → found-back (found-numbers f store a) ≡ a
+unfolding found-back found-numbers
+found-undo f store (Found.Refused n) = refl
+found-undo f store (Found.InFrame start size true) = refl
+found-undo f store (Found.InFrame start size false) = refl
+found-undo f store (Found.InStore size true) = refl
+found-undo f store (Found.InStore size false) = refl
+found-undo f store Found.Damaged = refl
+found-undo f store Found.Spent = refl
+
+move-back : StepSaid → Move
+move-back a = record { found = found-back (a .answer); next = a .next }
+
+-- the answer, the record and every octet of the store
+pub step-determined : (f : List ℕ) {a b : Move} {p q : List ℕ} {x : StepSaid} → step-says a f p ≡ x → step-says b f q ≡ x → (a ≡ b) × (p ≡ q)
+unfolding move-back
+step-determined f {a} {b} {p} {q} d e =
+    let undo : (m : Move) (st : List ℕ) → move-back (step-says m f st) ≡ m =
+    λ m st. ap (λ (w : Found). record { found = w; next = m .next }) (found-undo f st (m .found)) in
+    (sym (undo a p) ∙ ap move-back (d ∙ sym e) ∙ undo b q, ap (λ (y : StepSaid). y .store) (d ∙ sym e))

@@ -1,0 +1,145 @@
+-- A step of a walk, case by case, with the zone's octets as they lie in the frame.
+-- Assumes nothing.
+use mathlib.Core.Path.{_≡_, refl, sym, ap, ap₂, _∙_, subst}
+use mathlib.Core.List.{List, [], _∷_, _++_}
+use mathlib.Core.Bool.{Bool}
+use Prim.Native.Nat.{ℕ, zero, suc, _+_, _-_, _≤_, _<_}
+use native.Mathlib.Nat.{sub-zero, zero-sub, suc-sub-suc, add-sub-cancel-left}
+use native.Mathlib.Omega.{arith}
+use lib.ListN.{length, take, drop, length-append}
+use lib.Seq.{take-take, take-nil, drop-nil, drop-drop, length-take-le}
+use borrow.Author.Tests.{le-leb, lt-leb, eq-eqb, ne-eqb}
+use Rattle.octets.specs.Basics.{over, laid-part}
+use Rattle.octets.proofs.Written.{length-run, part-within}
+use Rattle.packets.specs.Packet.{damaged, whole, look, is-idle}
+use Rattle.packets.specs.Header.{says, answer, reading}
+use Rattle.packets.specs.declared.Kind.{Kind}
+use Rattle.packets.specs.declared.Header.{Header}
+use Rattle.packets.specs.declared.Header.the-variants.{More, Whole}
+use Rattle.packets.proofs.Grown.{look-bounds}
+use Rattle.packets.proofs.Begun.{more-short, idle-take, whole-idle}
+use Rattle.packets.proofs.Readings.{says-look}
+use Rattle.frames.specs.Frame.{zone-of, frame-length}
+use Rattle.frames.specs.declared.Settings.{Settings}
+use Rattle.frames.proofs.Settled.{settled}
+use Rattle.extractor.specs.Records.{step, step-look, handed-over, steps-to, kept-for-later}
+use Rattle.extractor.specs.Walks.{Walks}
+use Rattle.extractor.specs.declared.Extractor.the-variants.{Walking, Leaving}
+use Rattle.extractor.specs.declared.Found.the-variants.{InFrame, InStore, Damaged}
+use Rattle.extractor.proofs.Ranged.{limit-ranged}
+
+drop-take : (a n : ℕ) (l : List ℕ) → drop a (take n l) ≡ take (n - a) (drop a l)
+drop-take zero n l = ap (λ (k : ℕ). take k l) (sym (sub-zero n))
+drop-take (suc a) zero l = drop-nil (suc a) ∙ ap (λ (k : ℕ). take k (drop (suc a) l)) (sym (zero-sub (suc a)))
+drop-take (suc a) (suc n) [] = sym (take-nil (suc n - suc a))
+drop-take (suc a) (suc n) (x ∷ l) = drop-take a n l ∙ ap (λ (k : ℕ). take k (drop a l)) (sym (suc-sub-suc n a))
+
+-- the zone's octets from `at`, where they lie in the frame
+abbrev pub left : Settings → ℕ → List ℕ → List ℕ
+left s at f = take (8 + s .zone - (8 + at)) (drop (8 + at) f)
+
+pub zone-left : (s : Settings) (at : ℕ) (f : List ℕ) → drop at (zone-of s f) ≡ left s at f
+unfolding zone-of
+zone-left s at f =
+    let e : s .zone - at ≡ 8 + s .zone - (8 + at) = omega arith in
+    drop-take at (s .zone) (drop 8 f) ∙ ap (take (s .zone - at)) (drop-drop at 8 f) ∙ ap (λ (n : ℕ). take n (drop (8 + at) f)) e
+
+-- the numbers of a walk
+pub record Plain (s : Settings) (h at : ℕ) (store f : List ℕ) : Type 0 where
+  pub least : 7 ≤ s .limit
+  pub room : s .limit ≤ length store
+  pub small : s .zone ≤ 2046
+  pub inside : at ≤ s .zone
+  pub holds : h ≤ length store
+  pub long : length f ≡ 8 + s .zone
+
+pub plain : {s : Settings} {h at : ℕ} {store f : List ℕ} → Walks s h at store f → Plain s h at store f
+unfolding frame-length
+plain {s} w =
+    let r = settled s (w .ranged) in
+    record { least = r .limit-least; room = w .room; small = r .zone-most; inside = w .inside; holds = w .holds; long = omega (arith, w .framed) }
+
+module _ {s : Settings} {h at : ℕ} {store f : List ℕ} (w : Walks s h at store f) (last : ℕ) where
+  length-left : length (left s at f) ≡ 8 + s .zone - (8 + at)
+  length-left = length-run f (8 + at) (8 + s .zone - (8 + at)) (omega (arith, plain w))
+
+  -- the octets held, and those after them
+  abbrev both : List ℕ
+  both = take h store ++ left s at f
+
+  length-both : length both ≡ h + (8 + s .zone - (8 + at))
+  length-both = length-append (take h store) (left s at f) ∙ ap₂ _+_ (length-take-le h store (w .holds)) length-left
+
+  some-room : 1 ≤ s .limit
+  some-room = omega (arith, plain w)
+
+  module _ (r : Header) (told : answer r ≡ reading (s .limit) both) where
+    seen : says r ≡ look (s .limit) both
+    seen = says-look (s .limit) both r (limit-ranged s (w .ranged)) told
+
+    at-look : step s f store (Walking last h at) ≡ step-look s store last h at (left s at f) (says r)
+    unfolding step
+    at-look = rw (seen, zone-left s at f) refl
+
+    pub step-more : r ≡ More → kept-for-later store last h (left s at f) ≡ step s f store (Walking last h at)
+    unfolding says step-look
+    step-more q = sym (at-look ∙ ap (λ (x : Header). step-look s store last h at (left s at f) (says x)) q)
+
+    pub step-damaged : says r ≡ damaged → steps-to Damaged (Leaving last) store ≡ step s f store (Walking last h at)
+    unfolding step-look
+    step-damaged q = sym (at-look ∙ ap (step-look s store last h at (left s at f)) q)
+
+    pub more-room : r ≡ More → h + (8 + s .zone - (8 + at)) ≤ length store
+    unfolding says
+    more-room q = omega (arith, more-short (s .limit) both some-room (sym seen ∙ ap says q), length-both, plain w)
+
+    module _ {kind : Kind} {key size l : ℕ} {idle : Bool} (q : r ≡ Whole kind key idle size l) where
+      its-length : says r ≡ whole l
+      unfolding says
+      its-length = ap says q
+
+      pub whole-limit : l ≤ s .limit
+      whole-limit = look-bounds (s .limit) both some-room (sym seen ∙ its-length) .1
+
+      pub step-later : h + (8 + s .zone - (8 + at)) < l → kept-for-later store last h (left s at f) ≡ step s f store (Walking last h at)
+      unfolding step-look
+      step-later k =
+          sym (at-look ∙ ap (step-look s store last h at (left s at f)) its-length
+          ∙ rw (lt-leb l (h + length (left s at f)) (omega (arith, length-left))) refl)
+
+      module _ (k : l ≤ h + (8 + s .zone - (8 + at))) where
+        handed : handed-over s store last h at (left s at f) l ≡ step s f store (Walking last h at)
+        unfolding step-look
+        handed =
+            sym (at-look ∙ ap (step-look s store last h at (left s at f)) its-length
+            ∙ rw (le-leb l (h + length (left s at f)) (omega (arith, length-left))) refl)
+
+        its-mark : idle ≡ is-idle (take l both)
+        its-mark =
+            whole-idle (s .limit) both kind key idle size l (limit-ranged s (w .ranged)) (sym (ap answer q) ∙ told)
+            ∙ sym (idle-take (s .limit) both some-room (sym seen ∙ its-length) (omega (arith, length-both)))
+
+        -- a packet that lies in the frame
+        pub step-frame : (n : ℕ) → h ≡ 0 → n ≡ l - h
+            → steps-to (InFrame (8 + at) l idle) (Walking last 0 (at + n)) store ≡ step s f store (Walking last h at)
+        unfolding handed-over
+        step-frame n none m =
+            let all : n ≡ l = omega arith in
+            rw (its-mark, all) (rw (eq-eqb h 0 none) at handed)
+
+        -- a packet whose last octets are laid after those held
+        pub step-laid : (n : ℕ) (st : List ℕ) → (h ≡ 0 → ⊥) → n ≡ l - h → st ≡ laid-part store h (8 + at) (8 + at + n) f
+            → steps-to (InStore l idle) (Walking last 0 (at + n)) st ≡ step s f store (Walking last h at)
+        unfolding handed-over
+        step-laid n st some m v =
+            let rest : ℕ = 8 + s .zone - (8 + at) in
+            let cut : take (l - h) (left s at f) ≡ take (l - h) (drop (8 + at) f) = take-take (l - h) rest (drop (8 + at) f) (omega arith) in
+            let written : st ≡ over store h (take (l - h) (left s at f)) =
+            rw (
+              v,
+              m,
+              cut,
+              part-within store h (8 + at) (8 + at + (l - h)) f (omega arith) (omega (arith, plain w)) (omega (arith, whole-limit, plain w)),
+              add-sub-cancel-left (8 + at) (l - h),
+            ) refl in
+            rw (its-mark, m, written) (rw (ne-eqb h 0 some) at handed)

@@ -1,0 +1,51 @@
+-- `held::reachable` meets its contract, case by case.
+-- Assumes nothing.
+use mathlib.Core.Path.{refl}
+use borrow.Author.Tests.{eq-eqb, ne-eqb}
+use Rattle.frames.specs.Link.{count-width}
+use Rattle.extractor.specs.Records.{reachable}
+use borrow.Author.Needs.{needs}
+use Rattle.extractor.proofs.held.reachable.Statement.{statement}
+use Rattle.extractor.proofs.held.reachable.Tie as tie
+
+returns : tie.Need-returns
+unfolding reachable count-width
+returns c = cc
+
+returns-2 : tie.Need-returns-2
+unfolding reachable count-width
+returns-2 c = cc
+
+returns-3 : tie.Need-returns-3
+unfolding reachable count-width
+returns-3 c = rw (c .before .before .x2 .given .1, c .holds-well .ensures) refl
+
+returns-4 : tie.Need-returns-4
+unfolding reachable count-width
+returns-4 c = rw (c .before .before .before .x3 .given .1, eq-eqb _ _ (c .before .if1 .taken)) refl
+
+returns-5 : tie.Need-returns-5
+unfolding reachable count-width
+returns-5 c = rw (c .before .before .before .x3 .given .1, ne-eqb _ _ (c .before .if1 .left), c .holds-well2 .ensures) refl
+
+returns-6 : tie.Need-returns-6
+unfolding reachable count-width
+returns-6 c = cc
+
+pub reachable-spec : {M : Type 1} → statement M
+reachable-spec =
+    tie.close
+    (tie.spec
+    (λ c. search needs)
+    (λ c. search needs)
+    (λ c. search needs)
+    (λ c κs. search needs)
+    (λ c. search needs)
+    (λ c κs. search needs)
+    (λ c. search needs)
+    returns
+    returns-2
+    returns-3
+    returns-4
+    returns-5
+    returns-6)

@@ -1,0 +1,193 @@
+// Entering a frame: what is lost before it, whether its pointer agrees with the octets held, and where its walk sets out.
+ghost use mathlib.Core.Path.{_≡_};
+ghost use lib.ListN.{take};
+ghost use lib.Dec.{ltb};
+ghost use Rattle.octets.specs.Basics.{pick, first};
+ghost use Rattle.frames.specs.Frame.{no-start, count};
+ghost use Rattle.extractor.specs.Extract.{in-step, lost-since, reason-in, reason-of};
+ghost use Rattle.extractor.specs.Records.{enter-rows, last-count, held-in, is-in-step, stands-for, set-off};
+ghost use Rattle.extractor.specs.Answers.{enter-says, entered-as};
+ghost use Rattle.extractor.specs.Walks.{Walks, PointsTo, Heads};
+use crate::Entered;
+use crate::Entering;
+use crate::Entry;
+use crate::Extractor;
+use crate::held::look_on;
+use frames::Heading;
+use frames::IDLE_ZONE;
+use frames::NO_START;
+use frames::Settings;
+use frames::ZONE_AT;
+use packets::Header;
+
+// How many frames are missing before the count.
+fn lost_since(s: Settings, x: Extractor, count: u32) -> u32
+    ensures { λ r. ⌜ r ≡ lost-since s (last-count x) count ⌝ }
+{
+    match x {
+        Extractor::Fresh => 0,
+        Extractor::Astray { last } => frames::missing(count, last),
+        Extractor::InStep { last, held: _ } => frames::missing(count, last),
+        Extractor::Walking {
+            last,
+            held: _,
+            at: _,
+        } => frames::missing(count, last),
+        Extractor::Leaving { last } => frames::missing(count, last),
+    }
+}
+
+// How many octets are held.
+fn held_in(x: Extractor) -> usize
+    ensures { λ r. ⌜ r ≡ held-in x ⌝ }
+{
+    match x {
+        Extractor::Fresh => 0,
+        Extractor::Astray { last: _ } => 0,
+        Extractor::InStep { last: _, held } => held,
+        Extractor::Walking {
+            last: _,
+            held,
+            at: _,
+        } => held,
+        Extractor::Leaving { last: _ } => 0,
+    }
+}
+
+fn is_in_step(x: Extractor) -> bool
+    ensures { λ r. ⌜ r ≡ is-in-step x ⌝ }
+{
+    match x {
+        Extractor::Fresh => false,
+        Extractor::Astray { last: _ } => false,
+        Extractor::InStep { last: _, held: _ } => true,
+        Extractor::Walking {
+            last: _,
+            held: _,
+            at: _,
+        } => true,
+        Extractor::Leaving { last: _ } => false,
+    }
+}
+
+// The pointer that agrees with a packet whose last octets end at `end`, seen from the zone's start.
+fn next_start(zone: usize, end: usize) -> usize
+    ensures { λ r. ⌜ r ≡ pick (ltb end zone) end no-start ⌝ }
+{
+    if end < zone { end } else { NO_START }
+}
+
+// Why the octets held are dropped, by the frame's pointer; 0 where they are not.
+fn pointer_reason(s: Settings, held: usize, pointer: usize, store: &[u8], frame: &[u8]) -> u8
+    requires { ⌜ Walks s held 0 (now store) (now frame) ⌝ }
+    requires { ⌜ PointsTo s (now frame) pointer ⌝ }
+    ensures { λ r. ⌜ r ≡ reason-in s (in-step (take held (now (store .entry)))) (now (frame .entry)) ⌝ }
+{
+    if held == 0 {
+        return octets::refused((pointer == 0) | (pointer == IDLE_ZONE), 0, 2);
+    }
+    match look_on(s.limit, store, held, frame, ZONE_AT, ZONE_AT + s.zone) {
+        Header::Refused { refusal: _ } => 3,
+        Header::Damaged => 3,
+        Header::More => octets::refused(pointer == NO_START, 0, 2),
+        Header::Whole {
+            kind: _,
+            key: _,
+            idle: _,
+            size: _,
+            total,
+        } => octets::refused(
+            pointer == next_start(s.zone, octets::less(total, held)),
+            0,
+            2,
+        ),
+    }
+}
+
+// Why they are dropped: the frames that are missing come first.
+fn reason_of(s: Settings, x: Extractor, lost: u32, pointer: usize, store: &[u8], frame: &[u8]) -> u8
+    requires { ⌜ first (enter-rows s x (now store) (now frame)) ≡ 0 ⌝ }
+    requires { ⌜ lost ≡ lost-since s (last-count x) (count s (now frame)) ⌝ }
+    requires { ⌜ PointsTo s (now frame) pointer ⌝ }
+    ensures { λ r. ⌜ r ≡ reason-of s (stands-for (now (store .entry)) x) (now (frame .entry)) ⌝ }
+{
+    if lost != 0 {
+        return 1;
+    }
+    if !is_in_step(x) {
+        return 0;
+    }
+    pointer_reason(s, held_in(x), pointer, store, frame)
+}
+
+// Where the walk sets out: in step with so many octets held, or out of step.
+fn set_off(s: Settings, count: u32, pointer: usize, in_step: bool, held: usize) -> Extractor
+    ensures { λ r. ⌜ r ≡ set-off s count pointer in_step held ⌝ }
+{
+    if pointer == IDLE_ZONE {
+        return Extractor::Walking {
+            last: count,
+            held,
+            at: s.zone,
+        };
+    }
+    if in_step {
+        return Extractor::Walking {
+            last: count,
+            held,
+            at: 0,
+        };
+    }
+    if pointer == NO_START {
+        return Extractor::Leaving { last: count };
+    }
+    Extractor::Walking {
+        last: count,
+        held: 0,
+        at: pointer,
+    }
+}
+
+// A call that is not refused.
+pub(crate) fn taken(
+    s: Settings,
+    x: Extractor,
+    heading: Heading,
+    store: &[u8],
+    frame: &[u8],
+) -> Entering
+    requires { ⌜ first (enter-rows s x (now store) (now frame)) ≡ 0 ⌝ }
+    requires { ⌜ Heads s (now frame) heading ⌝ }
+    ensures { λ r. ⌜ enter-says r ≡ entered-as s x (now (store .entry)) (now (frame .entry)) ⌝ }
+{
+    let count = heading.count;
+    let replay = heading.replay;
+    let pointer = heading.pointer as usize;
+    let lost = lost_since(s, x, count);
+    let reason = reason_of(s, x, lost, pointer, store, frame);
+    let held = held_in(x);
+    if reason == 0 {
+        let entry = Entry {
+            count,
+            replay,
+            lost,
+            dropped: 0,
+            reason,
+        };
+        return Entering {
+            entered: Entered::Taken { entry },
+            next: set_off(s, count, pointer, is_in_step(x), held),
+        };
+    }
+    let entry = Entry {
+        count,
+        replay,
+        lost,
+        dropped: held,
+        reason,
+    };
+    Entering {
+        entered: Entered::Taken { entry },
+        next: set_off(s, count, pointer, false, 0),
+    }
+}

@@ -1,0 +1,146 @@
+// The extractor: frames in, packets out, call by call.
+ghost use mathlib.Core.Path.{_≡_};
+ghost use Rattle.octets.specs.Basics.{first};
+ghost use Rattle.extractor.specs.Records.{step-rows, part-of, shown};
+ghost use Rattle.extractor.specs.Answers.{enter-says, enter-answer, step-says, step-answer};
+use frames::Settings;
+
+mod arriving;
+mod held;
+mod walking;
+
+// What an extractor keeps between calls.
+pub enum Extractor {
+    // No frame yet: out of step, and no last count.
+    Fresh,
+    // Out of step, between frames.
+    Astray { last: u32 },
+    // In step, between frames, with so many octets of a packet in the store.
+    InStep { last: u32, held: usize },
+    // In step, a frame entered, its zone walked up to `at`.
+    Walking { last: u32, held: usize, at: usize },
+    // Out of step, a frame entered, nothing of it to walk.
+    Leaving { last: u32 },
+}
+
+// What is said of a frame that is entered: its count and replay flag, how many frames are missing before it, how many of the
+// octets held are dropped, and why: 0 they are not, 1 frames are missing, 2 the pointer differs, 3 their header is damaged.
+pub struct Entry {
+    pub count: u32,
+    pub replay: u8,
+    pub lost: u32,
+    pub dropped: usize,
+    pub reason: u8,
+}
+
+// What entering answers.
+pub enum Entered {
+    // The call is refused by this number.
+    Refused { refusal: u8 },
+    Taken { entry: Entry },
+}
+
+// What entering answers, and the record after it.
+pub struct Entering {
+    pub entered: Entered,
+    pub next: Extractor,
+}
+
+// What a step finds.
+pub enum Found {
+    // Nothing: the call is refused by this number.
+    Refused {
+        refusal: u8,
+    },
+    // A packet that lies in the frame.
+    InFrame {
+        start: usize,
+        size: usize,
+        idle: bool,
+    },
+    // A packet at the front of the store.
+    InStore {
+        size: usize,
+        idle: bool,
+    },
+    // The rest of the zone is damaged.
+    Damaged,
+    // Nothing more in this frame.
+    Spent,
+}
+
+// What a step finds, and the record after it.
+pub struct Move {
+    pub found: Found,
+    pub next: Extractor,
+}
+
+// Enters a frame: tells what was lost before it, compares its pointer, and sets out on its zone. The store is only read.
+pub fn enter(s: Settings, x: Extractor, store: &[u8], frame: &[u8]) -> Entering
+    ensures { λ r. ⌜ enter-says r ≡ enter-answer s x (now (store .entry)) (now (frame .entry)) ⌝ }
+{
+    let heading = frames::read_head(s, frame);
+    let moment = octets::refused(held::is_entered(x), 9, heading.refusal);
+    let refusal = held::refusal(s, x, store, moment);
+    if refusal != 0 {
+        return Entering {
+            entered: Entered::Refused { refusal },
+            next: x,
+        };
+    }
+    arriving::taken(s, x, heading, store, frame)
+}
+
+fn step_refusal(s: Settings, x: Extractor, store: &[u8], frame: &[u8]) -> u8
+    ensures { λ r. ⌜ r ≡ first (step-rows s x (now (store .entry)) (now (frame .entry))) ⌝ }
+{
+    let length = octets::refused(!frames::has_length(s, frame.len()), 3, 0);
+    let moment = octets::refused(!held::is_entered(x), 9, length);
+    held::refusal(s, x, store, moment)
+}
+
+// One step of the walk of a frame that is entered: the next packet, damage, or that the frame is spent.
+pub fn step(s: Settings, x: Extractor, store: &mut [u8], frame: &[u8]) -> Move
+    ensures { λ r. ⌜ step-says r (now (frame .entry)) (now (store .exit)) ≡ step-answer s x (now (store .entry)) (now (frame .entry)) ⌝ }
+{
+    let refusal = step_refusal(s, x, store, frame);
+    if refusal != 0 {
+        return Move {
+            found: Found::Refused { refusal },
+            next: x,
+        };
+    }
+    walking::moved(s, x, store, frame)
+}
+
+// So many octets from `start`; none where they would run past the end.
+fn part<'a>(octets: &'a [u8], start: usize, size: usize) -> &'a [u8]
+    ensures { λ r. ⌜ now r ≡ part-of (now (octets .entry)) start size ⌝ }
+{
+    let len = octets.len();
+    if len < size {
+        return &octets[..0];
+    }
+    if len - size < start {
+        return &octets[..0];
+    }
+    let end = start + size;
+    &octets[start..end]
+}
+
+// The part of the frame or of the store that a step's answer names; an empty part where it names none.
+pub fn show<'a>(frame: &'a [u8], store: &'a [u8], found: Found) -> &'a [u8]
+    ensures { λ r. ⌜ now r ≡ shown (now (frame .entry)) (now (store .entry)) found ⌝ }
+{
+    match found {
+        Found::InFrame {
+            start,
+            size,
+            idle: _,
+        } => part(frame, start, size),
+        Found::InStore { size, idle: _ } => part(store, 0, size),
+        Found::Refused { refusal: _ } => part(frame, 0, 0),
+        Found::Damaged => part(frame, 0, 0),
+        Found::Spent => part(frame, 0, 0),
+    }
+}

@@ -1,0 +1,111 @@
+// The walk of a frame's zone, a step at a time.
+ghost use mathlib.Core.Path.{_≡_};
+ghost use Prim.Native.Nat.{_+_, _-_, _≤_};
+ghost use lib.ListN.{length, take, drop};
+ghost use Rattle.octets.specs.Basics.{first, over};
+ghost use Rattle.extractor.specs.Records.{step-rows, step, steps-to, kept-for-later};
+ghost use Rattle.extractor.specs.Answers.{stepped};
+ghost use Rattle.extractor.specs.Walks.{Walks};
+use crate::Extractor;
+use crate::Found;
+use crate::Move;
+use crate::held::look_on;
+use frames::Settings;
+use frames::ZONE_AT;
+use packets::Header;
+
+// The frame's octets from `from` up to `to` join those held.
+fn keep(last: u32, held: usize, store: &mut [u8], frame: &[u8], from: usize, to: usize) -> Move
+    requires { ⌜ (from ≤ to) × (to ≤ length (now frame)) ⌝ }
+    requires { ⌜ held + (to - from) ≤ length (now store) ⌝ }
+    ensures { λ r. ⌜ stepped r (now (store .exit)) ≡ kept-for-later (now (store .entry)) last held (take (to - from) (drop from (now (frame .entry)))) ⌝ }
+{
+    octets::lay(store, held, frame, from, to);
+    Move {
+        found: Found::Spent,
+        next: Extractor::InStep {
+            last,
+            held: held + (to - from),
+        },
+    }
+}
+
+// The rest of the zone is abandoned.
+fn abandoned(last: u32) -> Move
+    ensures { λ r. ⌜ (r .found ≡ Found.Damaged) × (r .next ≡ Extractor.Leaving last) ⌝ }
+{
+    Move {
+        found: Found::Damaged,
+        next: Extractor::Leaving { last },
+    }
+}
+
+// The walk goes on at `at`, with nothing held.
+fn onward(last: u32, at: usize) -> Extractor
+    ensures { λ r. ⌜ r ≡ Extractor.Walking last 0 at ⌝ }
+{
+    Extractor::Walking { last, held: 0, at }
+}
+
+fn walk(s: Settings, last: u32, held: usize, at: usize, store: &mut [u8], frame: &[u8]) -> Move
+    requires { ⌜ Walks s held at (now store) (now frame) ⌝ }
+    ensures { λ r. ⌜ stepped r (now (store .exit)) ≡ step s (now (frame .entry)) (now (store .entry)) (Extractor.Walking last held at) ⌝ }
+{
+    let from = ZONE_AT + at;
+    let to = ZONE_AT + s.zone;
+    match look_on(s.limit, store, held, frame, from, to) {
+        Header::Refused { refusal: _ } => abandoned(last),
+        Header::Damaged => abandoned(last),
+        Header::More => keep(last, held, store, frame, from, to),
+        Header::Whole {
+            kind: _,
+            key: _,
+            idle,
+            size: _,
+            total,
+        } => {
+            if held + (to - from) < total {
+                return keep(last, held, store, frame, from, to);
+            }
+            let rest = octets::less(total, held);
+            let next = onward(last, at + rest);
+            if held == 0 {
+                let found = Found::InFrame {
+                    start: from,
+                    size: total,
+                    idle,
+                };
+                return Move { found, next };
+            }
+            octets::lay(store, held, frame, from, from + rest);
+            let found = Found::InStore { size: total, idle };
+            Move { found, next }
+        }
+    }
+}
+
+// One step of a call that is not refused.
+pub(crate) fn moved(s: Settings, x: Extractor, store: &mut [u8], frame: &[u8]) -> Move
+    requires { ⌜ first (step-rows s x (now store) (now frame)) ≡ 0 ⌝ }
+    ensures { λ r. ⌜ stepped r (now (store .exit)) ≡ step s (now (frame .entry)) (now (store .entry)) x ⌝ }
+{
+    match x {
+        Extractor::Fresh => Move {
+            found: Found::Spent,
+            next: x,
+        },
+        Extractor::Astray { last: _ } => Move {
+            found: Found::Spent,
+            next: x,
+        },
+        Extractor::InStep { last: _, held: _ } => Move {
+            found: Found::Spent,
+            next: x,
+        },
+        Extractor::Walking { last, held, at } => walk(s, last, held, at, store, frame),
+        Extractor::Leaving { last } => Move {
+            found: Found::Spent,
+            next: Extractor::Astray { last },
+        },
+    }
+}
