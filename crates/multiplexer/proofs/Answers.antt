@@ -25,7 +25,7 @@ module _ (s : Settings) (m : Mux) (c : Call) (frame : List ℕ) {n : ℕ} (e : n
 
 -- the outcome that an answer stands for
 abbrev said : Answer → Outcome
-said a = record { reply = pick (a .done) (Done (a .full) (a .taken) (a .mux)) (Refused (a .refusal) (a .mux)); frame = a .frame }
+said a = record { reply = pick (a .accepted) (Done (a .full) (a .taken) (a .mux)) (Refused (a .refusal) (a .mux)); frame = a .frame }
 
 said-back : (r : Reply) (frame : List ℕ) → said (answers r frame) ≡ record { reply = r; frame = frame }
 unfolding answers

@@ -29,10 +29,10 @@ call s m to-idle frame = idle-frame s m frame
 
 -- what a call answers, in document 01's numbers, and the frame that it leaves
 pub record Answer : Type 0 where
-  -- the refusal, or 0
+  -- whether the call is accepted; the refusal, or 0
+  pub accepted : Bool
   pub refusal : ℕ
-  -- whether the call was carried out; then whether the zone is full, and whether the packet is taken
-  pub done : Bool
+  -- whether the zone is full, and whether the packet is taken
   pub full : Bool
   pub taken : Bool
   -- the record to go on with
@@ -41,10 +41,10 @@ pub record Answer : Type 0 where
 
 -- a refusal leaves the record and the frame that it was given
 abbrev pub refusing : ℕ → Mux → List ℕ → Answer
-refusing n m frame = record { refusal = n; done = false; full = false; taken = false; mux = m; frame = frame }
+refusing n m frame = record { accepted = false; refusal = n; full = false; taken = false; mux = m; frame = frame }
 
 abbrev pub doing : Put → Answer
-doing w = record { refusal = 0; done = true; full = w .full; taken = w .taken; mux = w .mux; frame = w .frame }
+doing w = record { accepted = true; refusal = 0; full = w .full; taken = w .taken; mux = w .mux; frame = w .frame }
 
 -- the values of a reply, and the frame that is left behind
 unfoldable pub answers : Reply → List ℕ → Answer

@@ -37,12 +37,18 @@ of-told os more = refl
 of-told os damaged = refl
 of-told os (whole l) = refl
 
--- what an answer says of the length is what the octets say
-pub says-look : (limit : ℕ) (os : List ℕ) (r : Header) → limit-in-range limit ≡ true → answer r ≡ reading limit os → says r ≡ look limit os
-unfolding reading
-says-look limit os r h e =
-    let ranged : reading limit os ≡ told os (look limit os) = rw h refl in
-    sym (of-answer r) ∙ ap length-told (e ∙ ranged) ∙ of-told os (look limit os)
+module _ (limit : ℕ) (os : List ℕ) (r : Header) (ranged : limit-in-range limit ≡ true) (e : answer r ≡ reading limit os) where
+  looked : answer r ≡ told os (look limit os)
+  unfolding reading
+  looked = e ∙ rw ranged refl
+
+  -- what an answer says of the length is what the octets say
+  pub says-look : says r ≡ look limit os
+  says-look = sym (of-answer r) ∙ ap length-told looked ∙ of-told os (look limit os)
+
+  -- and the rest of it is what the octets tell
+  pub answer-told : answer r ≡ told os (says r)
+  answer-told = looked ∙ ap (told os) (sym says-look)
 
 -- ---- the test and the statement
 

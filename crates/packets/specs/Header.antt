@@ -11,6 +11,7 @@ use Rattle.packets.specs.declared.Kind.the-variants.{Space, Encapsulatio
 use Rattle.packets.specs.declared.Header.{Header}
 use Rattle.packets.specs.declared.Header.the-variants.{Refused, More, Damaged, Whole}
 
+-- what is answered of octets that begin a packet
 pub record Reading : Type 0 where
   -- the refusal, or 0
   pub refusal : ℕ
@@ -23,7 +24,7 @@ pub record Reading : Type 0 where
   pub size : ℕ
   pub total : ℕ
 
--- an answer without these
+-- an answer that tells nothing of the packet
 abbrev pub bare : ℕ → ℕ → Reading
 bare refusal outcome = record {
   refusal = refusal;

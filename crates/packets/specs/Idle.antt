@@ -9,6 +9,7 @@ use Rattle.octets.specs.Basics.{pick, and, octets, laid}
 unfoldable pub idle-header : ℕ → List ℕ
 idle-header r = pick (eqb r 1) (0xE0 ∷ []) (pick (leb r 255) (0xE1 ∷ r ∷ []) (0xE2 ∷ 0 ∷ octets 2 r))
 
+-- the header, and the fill octet up to r octets
 unfoldable pub idle-packet : ℕ → ℕ → List ℕ
 idle-packet fill r = idle-header r ++ replicate (r - length (idle-header r)) fill
 

@@ -8,7 +8,7 @@ use lib.ListN.{length, take, getD}
 use lib.Dec.{leb, ltb, eqb}
 use Rattle.octets.specs.Basics.{pick, and, or, number, field, part}
 
--- the greatest packet that a channel can set
+-- the limits that can be set, each the length of the greatest packet
 unfoldable pub limit-in-range : ℕ → Bool
 limit-in-range limit = and (leb 7 limit) (leb limit 65542)
 
@@ -26,7 +26,7 @@ sized limit size total = pick (or (ltb total size) (ltb limit total)) damaged (w
 unfoldable pub counted : ℕ → ℕ → ℕ → ℕ → Look
 counted limit len size total = pick (ltb len size) more (sized limit size total)
 
--- a space packet: the length field is the last of the header's six octets, and stands for 7 more
+-- a space packet: the last two of the header's six octets are the length field, and the total is 7 more
 unfoldable pub space : ℕ → List ℕ → Look
 space limit os = counted limit (length os) 6 (number (part 4 6 os) + 7)
 
@@ -37,7 +37,7 @@ header-length (suc zero) = 2
 header-length (suc (suc zero)) = 4
 header-length (suc (suc (suc n))) = 8
 
--- the length stands in the header's second half
+-- an encapsulation packet: the total stands in the header's second half; a header of one octet states none, and is idle
 unfoldable pub encapsulation : ℕ → ℕ → ℕ → List ℕ → Look
 encapsulation limit protocol zero os = pick (eqb protocol 0) (whole 1) damaged
 encapsulation limit protocol (suc n) os =
@@ -76,6 +76,7 @@ states n (whole l) = eqb l n
 unfoldable pub well-formed : ℕ → List ℕ → Bool
 well-formed limit p = states (length p) (look limit p)
 
+-- a space packet's APID
 abbrev pub apid : List ℕ → ℕ
 apid p = field (number (take 2 p)) 0 11
 

@@ -72,6 +72,7 @@ pub record SpaceReading : Type 0 where
   pub refusal : ℕ
   pub header : SpaceHeader
 
+-- a header of which nothing is told
 abbrev no-header : SpaceHeader
 no-header = record { version = 0; «packet_type» = 0; secondary = 0; apid = 0; flags = 0; count = 0; length = 0 }
 
@@ -88,6 +89,7 @@ space-reads (SpaceRead.Read header) = record { accepted = true; refusal = 0; hea
 
 -- ---- writing
 
+-- the refusals: a field out of range, and lack of room
 unfoldable pub space-rows : SpaceHeader → ℕ → List Row
 space-rows h room = row 1 (not (space-in-range h)) ∷ row 2 (ltb room 6) ∷ []
 
@@ -96,6 +98,7 @@ pub record SpaceWriting : Type 0 where
   pub refusal : ℕ
   pub output : List ℕ
 
+-- the rule: a refused call writes nothing
 unfoldable pub space-writing : SpaceHeader → List ℕ → SpaceWriting
 space-writing h output =
     let refusal : ℕ = first (space-rows h (length output)) in

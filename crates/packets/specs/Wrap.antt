@@ -19,6 +19,7 @@ lol-for protocol n =
     pick (and (leb (n + 2) 255) (not (eqb protocol 6))) 1
     (pick (leb (n + 4) 65535) 2 3)
 
+-- the length of the packet
 unfoldable pub wrapped-total : ℕ → ℕ → ℕ
 wrapped-total protocol n = n + header-length (lol-for protocol n)
 
@@ -51,6 +52,7 @@ pub record Wrapping : Type 0 where
   pub total : ℕ
   pub output : List ℕ
 
+-- the rule: a refused call writes nothing
 unfoldable pub wrapping : ℕ → ℕ → ℕ → List ℕ → List ℕ → Wrapping
 wrapping limit protocol extension unit output =
     let total : ℕ = wrapped-total protocol (length unit) in
@@ -73,6 +75,7 @@ pub record Suits (protocol n lol : ℕ) : Type 0 where
 
 -- ---- unwrapping
 
+-- the length-of-length of a packet's header
 abbrev pub its-lol : List ℕ → ℕ
 its-lol p = length-of-length (getD p 0 0)
 
@@ -87,6 +90,7 @@ reserved-of p = pick (leb 3 (its-lol p)) (number-at 2 2 p) 0
 unfoldable pub unit-of : List ℕ → List ℕ
 unit-of p = drop (header-length (its-lol p)) p
 
+-- the refusals: a space packet is refused by 8, an extension without protocol 6 and reserved bits by 6
 unfoldable pub unwrap-rows : ℕ → List ℕ → List Row
 unwrap-rows limit p =
     row 1 (not (limit-in-range limit))
@@ -104,6 +108,7 @@ pub record Unwrapping : Type 0 where
   pub start : ℕ
   pub size : ℕ
 
+-- the rule
 unfoldable pub unwrapping : ℕ → List ℕ → Unwrapping
 unwrapping limit p =
     let refusal : ℕ = first (unwrap-rows limit p) in

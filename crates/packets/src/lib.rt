@@ -70,7 +70,7 @@ enum Seen {
     Whole { total: usize },
 }
 
-// The limits that can be set.
+// Whether a limit can be set.
 fn in_range(limit: usize) -> bool
     ensures { λ r. ⌜ r ≡ limit-in-range limit ⌝ }
 {
@@ -112,7 +112,7 @@ fn counted(limit: usize, len: usize, size: usize, total: usize) -> Seen
     sized(limit, size, total)
 }
 
-// The length that such a header states in its second half; 0 where it is not all there.
+// The length that an encapsulation header states in its second half; 0 where it is not all there.
 fn stated(octets: &[u8], lol: u8) -> usize
     ensures { λ r. ⌜ r ≡ number-at (header-length lol / 2) (header-length lol / 2) (now (octets .entry)) ⌝ }
 {

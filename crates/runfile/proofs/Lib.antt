@@ -1,0 +1,4 @@
+pub mod Bounds
+pub mod Heard
+pub mod RunFiles
+pub mod Ends

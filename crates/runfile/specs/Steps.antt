@@ -1,0 +1,72 @@
+-- The reader of a run file, record by record, and what is heard of a file that is handed to it so.
+use Prim.Native.Nat.{ℕ, zero, suc, _+_}
+use mathlib.Core.List.{List, [], _∷_}
+use mathlib.Core.Bool.{Bool}
+use mathlib.Core.Option.{Option, none, some}
+use lib.ListN.{length, take, drop}
+use lib.Dec.{ltb, eqb}
+use Rattle.octets.specs.Basics.{pick, and}
+use Rattle.frames.specs.Frame.{frame-length}
+use Rattle.frames.specs.declared.Settings.{Settings}
+use Rattle.runfile.specs.RunFile.{most-frames, setup-length, setup-of, fits, Reading, stop, with-setup, with-frame}
+use Rattle.runfile.specs.declared.Reader.{Reader}
+use Rattle.runfile.specs.declared.Reader.the-variants.{Start, Running, Ended, Bad}
+
+-- whether a frame may come after n others, under settings that a setup can give
+unfoldable pub may-follow : Settings → ℕ → Bool
+may-follow s n = and (fits s) (ltb n most-frames)
+
+-- so many octets of body the next record has by its kind; none where it is bad
+unfoldable pub body-length : Reader → ℕ → ℕ
+body-length Start kind = pick (eqb kind 1) setup-length 0
+body-length (Running s n) kind = pick (and (eqb kind 2) (may-follow s n)) (frame-length s) 0
+body-length (Ended n) kind = 0
+body-length (Bad n) kind = 0
+
+-- no record has more of them
+abbrev pub most-body : ℕ
+most-body = 2054
+
+-- the reader after a record of this kind and this body
+unfoldable pub taken : Reader → ℕ → List ℕ → Reader
+taken Start kind body =
+    pick (and (eqb kind 1) (and (eqb (length body) setup-length) (fits (setup-of body)))) (Running (setup-of body) 0) (Bad 0)
+taken (Running s n) kind body =
+    pick (and (eqb kind 2) (and (may-follow s n) (eqb (length body) (frame-length s)))) (Running s (n + 1))
+    (pick (and (eqb kind 3) (eqb (length body) 0)) (Ended n) (Bad (n + 1)))
+taken (Ended n) kind body = Bad (n + 2)
+taken (Bad n) kind body = Bad n
+
+-- the reader when the input has ended: a run that has had its end stays, any other is cut
+unfoldable pub closed : Reader → Reader
+closed Start = Bad 0
+closed (Running s n) = Bad (n + 1)
+closed (Ended n) = Ended n
+closed (Bad n) = Bad n
+
+-- the number of the record that was bad, if one was
+unfoldable pub bad-of : Reader → Option ℕ
+bad-of Start = none
+bad-of (Running s n) = none
+bad-of (Ended n) = none
+bad-of (Bad n) = some n
+
+-- what a record told that left this reader, before what else is heard
+unfoldable pub told : ℕ → List ℕ → Reader → Reading → Reading
+told kind body Start later = later
+told kind body (Running s n) later = pick (eqb kind 1) (with-setup s later) (with-frame body later)
+told kind body (Ended n) later = later
+told kind body (Bad n) later = stop (some n)
+
+-- what is heard of octets that are handed over record by record, at most so many: the octet of kind, and then as much of its body as
+-- there is, until a record is bad or the input has ended
+unfoldable pub heard : ℕ → Reader → List ℕ → Reading
+heard zero r os = stop none
+heard (suc most) r [] = stop (bad-of (closed r))
+heard (suc most) r (kind ∷ os) =
+    let size : ℕ = body-length r kind in
+    told kind (take size os) (taken r kind (take size os)) (heard most (taken r kind (take size os)) (drop size os))
+
+-- of a whole file: each record takes an octet at least, and the end of the input one turn
+unfoldable pub heard-of : List ℕ → Reading
+heard-of os = heard (suc (length os)) Start os
