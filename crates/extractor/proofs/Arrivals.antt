@@ -85,7 +85,8 @@ module _ {s : Settings} {x : Extractor} {store f : List ℕ} (a : Arrives s x st
   nothing-dropped next none set =
       rw (set, missed, counted, replayed, pointed, reasoned, sym reasoned ∙ none, set-out-is s (count s f) (pointer s f) store x fits) refl
 
-  pub all-dropped : (next : Extractor) → (reason ≡ 0 → ⊥) → next ≡ set-off s c p false 0 → says-so (held-in x) next ≡ entered-as s x store f
+  pub all-dropped : (dropped : ℕ) (next : Extractor) → dropped ≡ held-in x → (reason ≡ 0 → ⊥) → next ≡ set-off s c p false 0
+      → says-so dropped next ≡ entered-as s x store f
   unfolding take-in enter step-of stands-for
-  all-dropped next some set =
-      rw (set, missed, counted, replayed, pointed, reasoned, ne-eqb _ 0 (λ e. some (reasoned ∙ e)), length-held store x fits) refl
+  all-dropped dropped next held some set =
+      rw (held, set, missed, counted, replayed, pointed, reasoned, ne-eqb _ 0 (λ e. some (reasoned ∙ e)), length-held store x fits) refl

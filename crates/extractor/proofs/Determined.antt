@@ -1,13 +1,16 @@
 -- The answers in numbers tell the answers apart: two outcomes that meet a promise are equal.
 -- Assumes nothing.
-use mathlib.Core.Path.{_≡_, refl, sym, ap, _∙_}
+use mathlib.Core.Path.{_≡_, refl, ap}
 use mathlib.Core.List.{List}
 use mathlib.Core.Bool.{true, false}
 use Prim.Native.Nat.{ℕ}
 use lib.Dec.{eqb}
 use Rattle.octets.specs.Basics.{pick}
 use Rattle.octets.proofs.Tests.{told-apart}
-use Rattle.extractor.specs.Answers.{EnterNumbers, EnterSaid, entered-numbers, enter-says, StepNumbers, StepSaid, found-numbers, step-says}
+use Rattle.frames.specs.declared.Settings.{Settings}
+use Rattle.extractor.specs.Records.{Stepped, steps-to, step-call}
+use Rattle.extractor.specs.Answers.{EnterNumbers, EnterSaid, entered-numbers, enter-says, StepNumbers, StepSaid, found-numbers, said, stepped, step-says, step-answer}
+use Rattle.extractor.specs.declared.Extractor.{Extractor}
 use Rattle.extractor.specs.declared.Entered.{Entered}
 use Rattle.extractor.specs.declared.Entering.{Entering}
 use Rattle.extractor.specs.declared.Found.{Found}
@@ -56,13 +59,21 @@ found-undo f store (Found.InStore size false) = refl
 found-undo f store Found.Damaged = refl
 found-undo f store Found.Spent = refl
 
-move-back : StepSaid → Move
-move-back a = record { found = found-back (a .answer); next = a .next }
+stepped-back : StepSaid → Stepped
+stepped-back a = steps-to (found-back (a .answer)) (a .next) (a .store)
+
+stepped-undo : (f : List ℕ) (w : Stepped) → stepped-back (said f w) ≡ w
+unfolding stepped-back
+stepped-undo f w = ap (λ (a : Found). steps-to a (w .next) (w .store)) (found-undo f (w .store) (w .found))
+
+-- a step that meets its promise is the one that the rules give
+pub step-outcome : (s : Settings) (x : Extractor) (store f : List ℕ) (r : Move) (st : List ℕ)
+    → step-says r f st ≡ step-answer s x store f → stepped r st ≡ step-call s x store f
+unfolding step-answer
+step-outcome s x store f r st e = told-apart (said f) stepped-back (stepped-undo f) e refl
 
 -- the answer, the record and every octet of the store
 pub step-determined : (f : List ℕ) {a b : Move} {p q : List ℕ} {x : StepSaid} → step-says a f p ≡ x → step-says b f q ≡ x → (a ≡ b) × (p ≡ q)
-unfolding move-back
 step-determined f {a} {b} {p} {q} d e =
-    let undo : (m : Move) (st : List ℕ) → move-back (step-says m f st) ≡ m =
-    λ m st. ap (λ (w : Found). record { found = w; next = m .next }) (found-undo f st (m .found)) in
-    (sym (undo a p) ∙ ap move-back (d ∙ sym e) ∙ undo b q, ap (λ (y : StepSaid). y .store) (d ∙ sym e))
+    let same : stepped a p ≡ stepped b q = told-apart (said f) stepped-back (stepped-undo f) d e in
+    (ap (λ (w : Stepped). record { found = w .found; next = w .next }) same, ap (λ (w : Stepped). w .store) same)

@@ -4,7 +4,7 @@
 use mathlib.Core.Logic.{_↔_}
 use mathlib.Core.Path.{_≡_, refl, sym, ap, _∙_}
 use mathlib.Core.List.{List, [], _∷_, _++_, append-assoc}
-use mathlib.Core.Bool.{Bool, true, false}
+use mathlib.Core.Bool.{true, false}
 use Prim.Native.Nat.{ℕ, zero, suc, _+_, _-_, _*_, _≤_, _<_}
 use native.Mathlib.Nat.{add-zero}
 use native.Mathlib.Omega.{arith}
@@ -12,7 +12,7 @@ use lib.ListN.{length, take, drop, replicate, length-append, length-drop, length
 use lib.Seq.{length-take-le, drop-append-le, take-append-add}
 use lib.Dec.{leb, ltb, eqb}
 use borrow.Author.Tests.{ltb-true, ltb-false, leb-true, le-leb, le-ltb}
-use Rattle.octets.specs.Basics.{pick, and, AllOctets, number-from, number, part}
+use Rattle.octets.specs.Basics.{and, AllOctets, number-from, number, part}
 use Rattle.octets.proofs.Choices.{apart, and-true}
 use Rattle.octets.proofs.Fronts.{part-append, all-append, all-zeros}
 use Rattle.octets.proofs.Tests.{test, and-both}

@@ -14,7 +14,7 @@ use Rattle.frames.specs.Frame.{in-range, frame-rows}
 use Rattle.frames.specs.declared.Settings.{Settings}
 use Rattle.extractor.specs.Extract.{State, fresh, Event, Said, take-in, Told, refused, taken, told, events-in, heard}
 use Rattle.extractor.specs.Records.{reachable, is-entered, stands-for, enter-rows, enter}
-use Rattle.extractor.specs.Answers.{said-numbers, entered-as, enter-answer}
+use Rattle.extractor.specs.Answers.{said-numbers, enter-answer}
 use Rattle.extractor.specs.Calls.{Finds, steps, all-said, Listened, listen}
 use Rattle.extractor.specs.declared.Extractor.{Extractor}
 use Rattle.extractor.specs.declared.Extractor.the-variants.{Fresh}

@@ -3,7 +3,7 @@
 use mathlib.Core.Path.{_≡_, refl, sym, ap, _∙_}
 use mathlib.Core.List.{List, [], _∷_, _++_}
 use mathlib.Core.Bool.{Bool}
-use Prim.Native.Nat.{ℕ, _+_, _-_, _≤_}
+use Prim.Native.Nat.{ℕ, _-_, _≤_}
 use native.Mathlib.Omega.{arith}
 use lib.ListN.{length, take}
 use lib.Seq.{length-take-le}
@@ -24,7 +24,7 @@ use Rattle.extractor.proofs.Ranged.{limit-ranged}
 use Rattle.extractor.proofs.Steps.{left, zone-left}
 
 -- octets that are held agree by what they say with the zone's
-pub agreed-some : (s : Settings) (held z : List ℕ) → 1 ≤ length held → agreed s held z ≡ agreed-look s held (look (s .limit) (held ++ z))
+agreed-some : (s : Settings) (held z : List ℕ) → 1 ≤ length held → agreed s held z ≡ agreed-look s held (look (s .limit) (held ++ z))
 unfolding agreed
 agreed-some s [] z h = absurd (omega arith)
 agreed-some s (o ∷ os) z h = refl

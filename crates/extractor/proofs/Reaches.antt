@@ -8,7 +8,7 @@ use mathlib.Core.Bool.{true, false}
 use Prim.Native.Nat.{ℕ, zero, suc, _+_, _-_, _≤_, _<_, _%_, _^_}
 use native.Mathlib.Omega.{arith}
 use lib.ListN.{length, take, drop, replicate, length-append, length-take, length-drop, length-replicate, take-append-drop, drop-of-length-le}
-use lib.Seq.{length-take-le, take-all, take-add, drop-at}
+use lib.Seq.{length-take-le, take-add, drop-at}
 use lib.Dec.{leb, ltb, eqb, eqb·suc-zero}
 use borrow.Author.Tests.{ltb-true, ltb-false, leb-true, leb-false, eqb-true, lt-ltb, le-ltb, ne-eqb, eq-eqb}
 use Rattle.octets.specs.Basics.{AllOctets, octets, first}
@@ -18,8 +18,8 @@ use Rattle.octets.proofs.Tests.{test, and-both}
 use Rattle.packets.specs.Packet.{Look, more, damaged, whole, look}
 use Rattle.packets.proofs.Begun.{damaged-append}
 use Rattle.packets.proofs.Grown.{look-append}
-use Rattle.frames.specs.Link.{zone-at, head-word, headers, count-width, missing}
-use Rattle.frames.specs.Frame.{idle-zone, no-start, in-range, frame-length, frame-rows, zone-of, pointer-word, head}
+use Rattle.frames.specs.Link.{head-word, headers, count-width, missing}
+use Rattle.frames.specs.Frame.{idle-zone, no-start, in-range, frame-length, zone-of, pointer-word, head}
 use Rattle.frames.specs.declared.Settings.{Settings}
 use Rattle.frames.proofs.Accepted.{length-zone, accepted}
 use Rattle.frames.proofs.Framed.{framed, Used, Framed, framed-is, pointer-inside, pointer-beyond}
@@ -33,7 +33,7 @@ use Rattle.extractor.specs.declared.Extractor.the-variants.{Fresh, Astra
 use Rattle.extractor.specs.declared.Found.the-variants.{Spent}
 use Rattle.extractor.proofs.Entries.{Arrival, nothing, onward, arrival}
 use Rattle.extractor.proofs.Listens.{entering-refusal}
-use Rattle.extractor.proofs.Places.{Begun, BegunIn, Place, in-zone, in-packet, holds-packet, holds-none, holds-some, walking-reachable, ahead}
+use Rattle.extractor.proofs.Places.{Begun, BegunIn, Place, in-zone, in-packet, holds-packet, holds-none, holds-some, ahead}
 use Rattle.extractor.proofs.Settles.{enter-reachable, step-keeps, step-unrefused}
 use Rattle.extractor.proofs.Turns.{Turn, leave, keep, break, give, turn, walking-turn}
 use Rattle.extractor.proofs.Unrefused.{arrives, moves}

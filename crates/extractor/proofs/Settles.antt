@@ -10,12 +10,12 @@ use native.Mathlib.Omega.{arith}
 use lib.ListN.{length, take, drop, length-drop}
 use lib.Seq.{take-append-seam}
 use borrow.Author.Tests.{le-ltb, lt-ltb, eq-eqb}
-use Rattle.octets.specs.Basics.{pick, All, first}
+use Rattle.octets.specs.Basics.{pick, first}
 use Rattle.octets.proofs.Choices.{apart, and-true}
 use Rattle.octets.proofs.Fields.{field-lt}
 use Rattle.octets.proofs.Fronts.{length-front-over, drop-front-over}
 use Rattle.octets.proofs.Tests.{and-both}
-use Rattle.packets.specs.Packet.{whole, look, is-idle}
+use Rattle.packets.specs.Packet.{is-idle}
 use Rattle.packets.proofs.Begun.{damaged-some}
 use Rattle.packets.proofs.Grown.{look-bounds}
 use Rattle.frames.specs.Frame.{in-range, frame-length, frame-rows, count}
@@ -23,13 +23,13 @@ use Rattle.frames.specs.Link.{primary, count-width}
 use Rattle.frames.specs.declared.Settings.{Settings}
 use Rattle.frames.proofs.Accepted.{accepted}
 use Rattle.frames.proofs.Settled.{settled}
-use Rattle.extractor.specs.Extract.{State, astray, in-step, Event, torn, as-event, event-of, Walked, after, ends, walk-turns, walk, take-in}
+use Rattle.extractor.specs.Extract.{State, astray, Event, torn, as-event, event-of, Walked, after, ends, walk-turns, walk, take-in}
 use Rattle.extractor.specs.Records.{on-wheel, reachable, is-entered, stands-for, enter, Stepped, steps-to, step-rows, step, step-call, shown}
 use Rattle.extractor.specs.Calls.{event-at, Finds, one-more, none-left, goes-on, steps, SpentLast}
 use Rattle.extractor.specs.declared.Extractor.{Extractor}
 use Rattle.extractor.specs.declared.Extractor.the-variants.{Fresh, Astray, InStep, Walking, Leaving}
 use Rattle.extractor.specs.declared.Found.{Found}
-use Rattle.extractor.specs.declared.Found.the-variants.{Damaged, Spent}
+use Rattle.extractor.specs.declared.Found.the-variants.{Damaged}
 use Rattle.extractor.proofs.Entries.{Arrival, nothing, onward, arrival}
 use Rattle.extractor.proofs.Places.{Begun, Place, in-zone, place, walking-reachable, holds-some, ahead}
 use Rattle.extractor.proofs.Turns.{Packed, framed, stored, Turn, leave, keep, break, give, turn, walking-turn}

@@ -10,11 +10,11 @@ use native.Mathlib.Omega.{arith}
 use lib.ListN.{length, take, drop, length-append, length-drop, take-append-drop}
 use lib.Seq.{take-append-le, drop-append-le, take-append-seam, drop-append-seam}
 use borrow.Author.Tests.{ltb-true, lt-ltb, le-leb, lt-leb}
-use Rattle.octets.specs.Basics.{pick, All}
+use Rattle.octets.specs.Basics.{All}
 use Rattle.octets.proofs.Choices.{apart, split}
 use Rattle.packets.specs.Packet.{Look, more, damaged, whole, look, WellFormed, is-idle, end-to-end}
 use Rattle.packets.proofs.Grown.{look-bounds, look-append, look-prefix, look-take}
-use Rattle.extractor.specs.Extract.{astray, in-step, Event, packet, idle, torn, as-event, event-of, marked, any-torn, Walked, after, ends, walk-look, walk-turns}
+use Rattle.extractor.specs.Extract.{astray, in-step, Event, torn, as-event, event-of, marked, any-torn, Walked, after, ends, walk-look, walk-turns}
 use Rattle.extractor.specs.Records.{unfinished}
 use Rattle.extractor.proofs.Places.{Begun}
 

@@ -8,7 +8,6 @@ use Rattle.frames.specs.declared.Settings.{Settings}
 use Rattle.extractor.specs.Extract.{Said, take-in}
 use Rattle.extractor.specs.Records.{stands-for, enter-rows, enter, Stepped, steps-to, step-call, shown}
 use Rattle.extractor.specs.declared.Extractor.{Extractor}
-use Rattle.extractor.specs.declared.Entry.{Entry}
 use Rattle.extractor.specs.declared.Entered.{Entered}
 use Rattle.extractor.specs.declared.Entered.the-variants.{Taken}
 use Rattle.extractor.specs.declared.Entered.the-variants as entered
@@ -33,6 +32,7 @@ pub record EnterNumbers : Type 0 where
 abbrev pub refused-entry : ℕ → EnterNumbers
 refused-entry n = record { refusal = n; outcome = 0; count = 0; replay = 0; lost = 0; dropped = 0; reason = 0 }
 
+-- each case of the answer in numbers
 unfoldable pub entered-numbers : Entered → EnterNumbers
 entered-numbers (entered.Refused n) = refused-entry n
 entered-numbers (Taken e) =
@@ -43,6 +43,7 @@ pub record EnterSaid : Type 0 where
   pub answer : EnterNumbers
   pub next : Extractor
 
+-- what an answer says
 abbrev pub enter-says : Entering → EnterSaid
 enter-says r = record { answer = entered-numbers (r .entered); next = r .next }
 
@@ -51,6 +52,7 @@ abbrev pub said-numbers : Said → EnterNumbers
 said-numbers t =
     record { refusal = 0; outcome = 1; count = t .count; replay = t .replay; lost = t .lost; dropped = t .dropped; reason = t .reason }
 
+-- the same, and the record after it
 abbrev pub entered-as : Settings → Extractor → List ℕ → List ℕ → EnterSaid
 entered-as s x store f =
     record { answer = said-numbers (take-in s (stands-for store x) f); next = enter s (stands-for store x) f }
@@ -73,6 +75,7 @@ pub record StepNumbers : Type 0 where
   pub size : ℕ
   pub part : List ℕ
 
+-- a refusal answers its number, no count and no part
 abbrev pub refused-step : ℕ → StepNumbers
 refused-step n = record { refusal = n; outcome = 0; place = 0; start = 0; size = 0; part = [] }
 
@@ -80,9 +83,11 @@ refused-step n = record { refusal = n; outcome = 0; place = 0; start = 0; size =
 abbrev pub bare : ℕ → StepNumbers
 bare outcome = record { refusal = 0; outcome = outcome; place = 0; start = 0; size = 0; part = [] }
 
+-- 1 a packet, 2 an idle packet
 abbrev pub packet-or-idle : Bool → ℕ
 packet-or-idle idle = pick idle 2 1
 
+-- each case of the answer in numbers, with the part that `show` hands back of this frame and this store
 unfoldable pub found-numbers : List ℕ → List ℕ → Found → StepNumbers
 found-numbers f store (Refused n) = refused-step n
 found-numbers f store (InFrame start size idle) =
@@ -98,6 +103,7 @@ pub record StepSaid : Type 0 where
   pub next : Extractor
   pub store : List ℕ
 
+-- an outcome in numbers
 abbrev pub said : List ℕ → Stepped → StepSaid
 said f w = record { answer = found-numbers f (w .store) (w .found); next = w .next; store = w .store }
 
@@ -105,6 +111,7 @@ said f w = record { answer = found-numbers f (w .store) (w .found); next = w .ne
 abbrev pub stepped : Move → List ℕ → Stepped
 stepped m st = steps-to (m .found) (m .next) st
 
+-- what an answer says
 abbrev pub step-says : Move → List ℕ → List ℕ → StepSaid
 step-says m f st = said f (stepped m st)
 

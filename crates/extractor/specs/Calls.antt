@@ -28,6 +28,7 @@ pub record Finds : Type 0 where
   pub next : Extractor
   pub store : List ℕ
 
+-- one step before others
 abbrev pub one-more : List ℕ → Stepped → Finds → Finds
 one-more f w t = record {
   found = w .found ∷ t .found;
@@ -36,6 +37,7 @@ one-more f w t = record {
   store = t .store;
 }
 
+-- no step more
 abbrev pub none-left : Extractor → List ℕ → Finds
 none-left x store = record { found = []; events = []; next = x; store = store }
 
@@ -76,6 +78,7 @@ pub record Listened : Type 0 where
   pub next : Extractor
   pub store : List ℕ
 
+-- one frame before others
 abbrev pub tells : Told → Listened → Listened
 tells t l = record { told = t ∷ l .told; next = l .next; store = l .store }
 

@@ -21,6 +21,7 @@ pub record State : Type 0 where
   pub last : Option ℕ
   pub step : Step
 
+-- the start: out of step, no last count
 abbrev pub fresh : State
 fresh = record { last = none; step = astray }
 
@@ -30,9 +31,11 @@ pub data Event : Type 0 where
   idle : List ℕ → Event
   torn : Event
 
+-- a packet that is marked idle or not
 abbrev pub as-event : Bool → List ℕ → Event
 as-event mark p = pick mark (idle p) (packet p)
 
+-- a packet marked as it is
 abbrev pub event-of : List ℕ → Event
 event-of p = as-event (is-idle p) p
 
@@ -53,9 +56,11 @@ pub record Walked : Type 0 where
   pub events : List Event
   pub leaves : Step
 
+-- an event before the others
 abbrev pub after : Event → Walked → Walked
 after e w = record { events = e ∷ w .events; leaves = w .leaves }
 
+-- a walk that ends so
 abbrev pub ends : List Event → Step → Walked
 ends es s = record { events = es; leaves = s }
 
@@ -80,10 +85,12 @@ agreed-look s held damaged = none
 agreed-look s held (whole l) =
     some (pick (ltb (l - length held) (s .zone)) (l - length held) no-start ∷ [])
 
+-- with nothing held a packet starts at once, or the zone is idle
 unfoldable pub agreed : Settings → List ℕ → List ℕ → Option (List ℕ)
 agreed s [] z = some (0 ∷ idle-zone ∷ [])
 agreed s (o ∷ os) z = agreed-look s (o ∷ os) (look (s .limit) ((o ∷ os) ++ z))
 
+-- whether a number is in a list
 abbrev pub member : ℕ → List ℕ → Bool
 member n [] = false
 member n (m ∷ ms) = or (eqb n m) (member n ms)
@@ -93,6 +100,7 @@ unfoldable pub reason-by : ℕ → Option (List ℕ) → ℕ
 reason-by p none = 3
 reason-by p (some ps) = pick (member p ps) 0 2
 
+-- the same of a step that is compared with a frame: out of step nothing is
 unfoldable pub reason-in : Settings → Step → List ℕ → ℕ
 reason-in s astray f = 0
 reason-in s (in-step held) f = reason-by (pointer s f) (agreed s held (zone-of s f))
@@ -102,6 +110,7 @@ unfoldable pub lost-since : Settings → Option ℕ → ℕ → ℕ
 lost-since s none c = 0
 lost-since s (some last) c = missing (count-width (s .link)) last c
 
+-- missing frames come first
 unfoldable pub reason-of : Settings → State → List ℕ → ℕ
 reason-of s x f = pick (eqb (lost-since s (x .last) (count s f)) 0) (reason-in s (x .step) f) 1
 
@@ -109,6 +118,7 @@ reason-of s x f = pick (eqb (lost-since s (x .last) (count s f)) 0) (reason-in s
 unfoldable pub step-of : Settings → State → List ℕ → Step
 step-of s x f = pick (eqb (reason-of s x f) 0) (x .step) astray
 
+-- the octets held
 abbrev pub held-of : Step → List ℕ
 held-of astray = []
 held-of (in-step held) = held
@@ -132,6 +142,7 @@ pub record Said : Type 0 where
   pub events : List Event
   pub state : State
 
+-- entering the frame and walking its zone
 unfoldable pub take-in : Settings → State → List ℕ → Said
 take-in s x f =
     let w : Walked = walked s (step-of s x f) f in

@@ -15,13 +15,15 @@ sample = record { link = record { spacecraft = 66; channel = 3 }; zone = 10; lim
 abbrev pub sample-frame : ℕ → ℕ → List ℕ → List ℕ
 sample-frame c p z = (0x50 ∷ 0x83 ∷ octets 3 c) ++ (0x00 ∷ octets 2 p) ++ z
 
--- the zones of the two sample frames
+-- the zone of the first sample frame
 abbrev pub first-zone : List ℕ
 first-zone = 0x00 ∷ 0x05 ∷ 0xC0 ∷ 0x00 ∷ 0x00 ∷ 0x01 ∷ 0xAA ∷ 0xBB ∷ 0xE9 ∷ 0x05 ∷ []
 
+-- and of the second
 abbrev pub second-zone : List ℕ
 second-zone = 0x11 ∷ 0x22 ∷ 0x33 ∷ 0xE1 ∷ 0x07 ∷ 0x55 ∷ 0x55 ∷ 0x55 ∷ 0x55 ∷ 0x55 ∷ []
 
+-- the first frame as it is
 abbrev pub first-frame : List ℕ
 first-frame = sample-frame 0 0 first-zone
 
@@ -42,10 +44,12 @@ pub record Line : Type 0 where
   pub reason : ℕ
   pub events : List Event
 
+-- a refused frame has its number alone
 abbrev pub line-of : Told → Line
 line-of (refused n) = record { refusal = n; count = 0; lost = 0; dropped = 0; reason = 0; events = [] }
 line-of (taken t) = record { refusal = 0; count = t .count; lost = t .lost; dropped = t .dropped; reason = t .reason; events = t .events }
 
+-- the same of each frame
 abbrev pub lines-of : List Told → List Line
 lines-of [] = []
 lines-of (t ∷ ts) = line-of t ∷ lines-of ts
@@ -54,13 +58,15 @@ lines-of (t ∷ ts) = line-of t ∷ lines-of ts
 abbrev pub entered : ℕ → ℕ → ℕ → ℕ → List Event → Line
 entered c l d r es = record { refusal = 0; count = c; lost = l; dropped = d; reason = r; events = es }
 
+-- and for one that is refused
 abbrev pub refused-by : ℕ → Line
 refused-by n = line-of (refused n)
 
--- the first frame's line, and the idle packet of the second
+-- the first frame's line
 abbrev pub first-line : Line
 first-line = entered 0 0 0 0 (packet (0x00 ∷ 0x05 ∷ 0xC0 ∷ 0x00 ∷ 0x00 ∷ 0x01 ∷ 0xAA ∷ 0xBB ∷ []) ∷ [])
 
+-- the idle packet of the second
 abbrev pub idle-seven : Event
 idle-seven = idle (0xE1 ∷ 0x07 ∷ 0x55 ∷ 0x55 ∷ 0x55 ∷ 0x55 ∷ 0x55 ∷ [])
 
@@ -69,14 +75,16 @@ pub record Pass : Type 0 where
   pub frames : List (List ℕ)
   pub lines : List Line
 
+-- both, put together
 abbrev pub pass : List (List ℕ) → List Line → Pass
 pass fs ls = record { frames = fs; lines = ls }
 
--- the lines that the rules give, and those that are right
+-- the lines that the rules give
 abbrev pub given : List Pass → List (List Line)
 given [] = []
 given (p ∷ ps) = lines-of (told sample fresh (p .frames)) ∷ given ps
 
+-- and those that are right
 abbrev pub right : List Pass → List (List Line)
 right [] = []
 right (p ∷ ps) = p .lines ∷ right ps

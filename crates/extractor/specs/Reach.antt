@@ -50,6 +50,7 @@ room-to-state s size half plus held =
     or (ltb (length (held ++ zeros s)) size)
     (and (leb size (s .limit)) (leb (number (part half size (held ++ zeros s)) + plus) (s .limit)))
 
+-- the same of an encapsulation packet, by its length-of-length
 unfoldable pub encapsulation-goes-on : Settings → ℕ → List ℕ → Bool
 encapsulation-goes-on s zero held = true
 encapsulation-goes-on s (suc n) held = room-to-state s (header-length (suc n)) (header-length (suc n) / 2) 0 held
@@ -60,6 +61,7 @@ can-go-on s [] = true
 can-go-on s (o ∷ os) =
     pick (eqb (packet-version o) 0) (room-to-state s 6 4 7 (o ∷ os)) (encapsulation-goes-on s (length-of-length o) (o ∷ os))
 
+-- `Continues` as a test
 unfoldable pub held-goes-on : Settings → List ℕ → Extractor → Bool
 held-goes-on s store Fresh = true
 held-goes-on s store (Astray last) = true

@@ -10,7 +10,7 @@ use Rattle.packets.specs.Packet.{Look, more, damaged, whole, look, is-idle}
 use Rattle.frames.specs.Frame.{idle-zone, no-start, in-range, frame-length, frame-rows, pointer, count, zone-of}
 use Rattle.frames.specs.Link.{zone-at, count-width}
 use Rattle.frames.specs.declared.Settings.{Settings}
-use Rattle.extractor.specs.Extract.{Step, astray, in-step, State, fresh, step-of}
+use Rattle.extractor.specs.Extract.{Step, astray, in-step, State, step-of}
 use Rattle.extractor.specs.declared.Extractor.{Extractor}
 use Rattle.extractor.specs.declared.Extractor.the-variants.{Fresh, Astray, InStep, Walking, Leaving}
 use Rattle.extractor.specs.declared.Found.{Found}
@@ -28,6 +28,7 @@ unfinished n (whole l) = ltb n l
 unfoldable pub holds-well : Settings → List ℕ → ℕ → Bool
 holds-well s store h = or (eqb h 0) (and (leb h (length store)) (unfinished h (look (s .limit) (take h store))))
 
+-- a count of the channel's width
 abbrev pub on-wheel : Settings → ℕ → Bool
 on-wheel s c = ltb c (2 ^ count-width (s .link))
 
@@ -125,6 +126,7 @@ pub record Stepped : Type 0 where
   pub next : Extractor
   pub store : List ℕ
 
+-- these three, put together
 abbrev pub steps-to : Found → Extractor → List ℕ → Stepped
 steps-to a x st = record { found = a; next = x; store = st }
 

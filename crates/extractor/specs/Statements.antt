@@ -18,9 +18,11 @@ use Rattle.extractor.specs.declared.Extractor.the-variants.{Fresh, Walki
 use Rattle.extractor.specs.declared.Entering.{Entering}
 use Rattle.extractor.specs.declared.Move.{Move}
 
+-- the least zone and the least limit
 abbrev pub tight : Settings
 tight = record { link = record { spacecraft = 0; channel = 0 }; zone = 1; limit = 7; fill = 0 }
 
+-- seven octets of a header of eight
 abbrev pub seven-held : List ℕ
 seven-held = 0xE3 ∷ 0 ∷ 0 ∷ 0 ∷ 0 ∷ 0 ∷ 0 ∷ []
 

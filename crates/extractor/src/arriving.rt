@@ -54,6 +54,7 @@ fn held_in(x: Extractor) -> usize
     }
 }
 
+// Whether packets are followed, and not only looked for.
 fn is_in_step(x: Extractor) -> bool
     ensures { λ r. ⌜ r ≡ is-in-step x ⌝ }
 {
@@ -77,7 +78,7 @@ fn next_start(zone: usize, end: usize) -> usize
     if end < zone { end } else { NO_START }
 }
 
-// Why the octets held are dropped, by the frame's pointer; 0 where they are not.
+// Why the octets held are dropped, by the frame's pointer: 3 where their header is damaged, else 2 or, where the pointer agrees, 0.
 fn pointer_reason(s: Settings, held: usize, pointer: usize, store: &[u8], frame: &[u8]) -> u8
     requires { ⌜ Walks s held 0 (now store) (now frame) ⌝ }
     requires { ⌜ PointsTo s (now frame) pointer ⌝ }

@@ -14,6 +14,7 @@ use frames::Settings;
 use frames::WHEEL;
 use packets::Header;
 
+// Whether n octets whose header says this begin a packet that is longer than they are.
 fn unfinished(n: usize, h: Header) -> bool
     ensures { λ r. ⌜ r ≡ unfinished n (says h) ⌝ }
 {
@@ -31,6 +32,7 @@ fn unfinished(n: usize, h: Header) -> bool
     }
 }
 
+// Whether the first octets of the store are such, or none are held. No more than their header is read.
 fn holds_well(s: Settings, store: &[u8], held: usize) -> bool
     requires { ⌜ in-range s ≡ true ⌝ }
     ensures { λ r. ⌜ r ≡ holds-well s (now (store .entry)) held ⌝ }
@@ -44,6 +46,7 @@ fn holds_well(s: Settings, store: &[u8], held: usize) -> bool
     unfinished(held, packets::read_header(s.limit, &store[..held]))
 }
 
+// Whether the rules can reach the record with this store.
 fn reachable(s: Settings, store: &[u8], x: Extractor) -> bool
     requires { ⌜ in-range s ≡ true ⌝ }
     ensures { λ r. ⌜ r ≡ reachable s (now (store .entry)) x ⌝ }
@@ -97,6 +100,7 @@ struct Start {
     n: usize,
 }
 
+// Puts them together.
 fn start_of(store: &[u8], held: usize, frame: &[u8], from: usize, to: usize) -> Start
     requires { ⌜ held ≤ length (now store) ⌝ }
     requires { ⌜ (from ≤ to) × (to ≤ length (now frame)) ⌝ }

@@ -37,6 +37,7 @@ pub struct Entry {
 pub enum Entered {
     // The call is refused by this number.
     Refused { refusal: u8 },
+    // The frame is entered.
     Taken { entry: Entry },
 }
 
@@ -91,6 +92,7 @@ pub fn enter(s: Settings, x: Extractor, store: &[u8], frame: &[u8]) -> Entering
     arriving::taken(s, x, heading, store, frame)
 }
 
+// What a step is refused for; 0 where for nothing.
 fn step_refusal(s: Settings, x: Extractor, store: &[u8], frame: &[u8]) -> u8
     ensures { λ r. ⌜ r ≡ first (step-rows s x (now (store .entry)) (now (frame .entry))) ⌝ }
 {

@@ -2,8 +2,8 @@
 ghost use mathlib.Core.Path.{_≡_};
 ghost use Prim.Native.Nat.{_+_, _-_, _≤_};
 ghost use lib.ListN.{length, take, drop};
-ghost use Rattle.octets.specs.Basics.{first, over};
-ghost use Rattle.extractor.specs.Records.{step-rows, step, steps-to, kept-for-later};
+ghost use Rattle.octets.specs.Basics.{first};
+ghost use Rattle.extractor.specs.Records.{step-rows, step, kept-for-later};
 ghost use Rattle.extractor.specs.Answers.{stepped};
 ghost use Rattle.extractor.specs.Walks.{Walks};
 use crate::Extractor;
@@ -47,6 +47,8 @@ fn onward(last: u32, at: usize) -> Extractor
     Extractor::Walking { last, held: 0, at }
 }
 
+// One step of a walk: the next packet is shown where it lies, or completed at the end of the octets held; what is left of the zone
+// and is no whole packet joins them.
 fn walk(s: Settings, last: u32, held: usize, at: usize, store: &mut [u8], frame: &[u8]) -> Move
     requires { ⌜ Walks s held at (now store) (now frame) ⌝ }
     ensures { λ r. ⌜ stepped r (now (store .exit)) ≡ step s (now (frame .entry)) (now (store .entry)) (Extractor.Walking last held at) ⌝ }

@@ -11,7 +11,7 @@ cast-result : tie.Need-cast-result
 unfolding mixed
 cast-result c =
     let a = c .before .args in
-    record { fits = omega (arith, c .placed .ensures, mixed-lt (a .k) (a .bits) (a .fill) (omega arith) (omega arith)) }
+    record { fits = rw (c .placed .ensures) (mixed-lt (a .k) (a .bits) _ (omega arith) (omega arith)) }
 
 returns : tie.Need-returns
 unfolding mixed

@@ -3,7 +3,6 @@
 use mathlib.Core.Path.{_≡_, refl, sym, _∙_}
 use borrow.Author.Tests.{eq-eqb, ne-eqb}
 use Rattle.octets.specs.Basics.{first}
-use Rattle.frames.specs.Frame.{heading}
 use Rattle.extractor.specs.Records.{enter-rows}
 use Rattle.extractor.specs.Answers.{entered-numbers, enter-answer}
 use Rattle.frames.proofs.Accepted.{heading-refusal}

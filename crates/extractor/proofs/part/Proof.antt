@@ -13,17 +13,20 @@ use Rattle.extractor.proofs.part.Tie as tie
 
 returns : tie.Need-returns
 unfolding part-of
-returns c = let a = c .before .before .args in
+returns c =
+    let a = c .before .before .args in
     rw (lt-leb (a .start + a .size) (length (a .octets .now)) (omega arith)) refl
 
 returns-2 : tie.Need-returns-2
 unfolding part-of
-returns-2 c = let a = c .before .before .before .args in
+returns-2 c =
+    let a = c .before .before .before .args in
     rw (lt-leb (a .start + a .size) (length (a .octets .now)) (omega arith)) refl
 
 returns-3 : tie.Need-returns-3
 unfolding part-of
-returns-3 c = let a = c .before .before .before .args in
+returns-3 c =
+    let a = c .before .before .before .args in
     rw (le-leb (a .start + a .size) (length (a .octets .now)) (omega arith), add-sub-cancel-left) refl
 
 pub part-spec : {M : Type 1} → statement M

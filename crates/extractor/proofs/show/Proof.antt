@@ -1,8 +1,7 @@
 -- `show` meets its contract, case by case.
 -- Assumes nothing.
 use mathlib.Core.Path.{_∙_}
-use lib.ListN.{length}
-use Rattle.extractor.specs.Records.{part-of, shown}
+use Rattle.extractor.specs.Records.{shown}
 use Rattle.extractor.proofs.Parts.{no-part}
 use borrow.Author.Needs.{needs}
 use Rattle.extractor.proofs.show.Statement.{statement}

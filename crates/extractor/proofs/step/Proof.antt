@@ -14,7 +14,8 @@ returns c = rw (← c .before .step-refusal .ensures, ne-eqb _ _ (c .if1 .taken)
 
 returns-2 : tie.Need-returns-2
 unfolding step-answer step-call
-returns-2 c = let at-if1 = c .before .before .before .before in
+returns-2 c =
+    let at-if1 = c .before .before .before .before in
     rw (← at-if1 .before .step-refusal .ensures, eq-eqb _ _ (at-if1 .if1 .left))
     (ap (said (at-if1 .before .before .before .before .before .args .frame .now)) (c .before .before .moved .ensures))
 

@@ -9,7 +9,8 @@ use Rattle.extractor.proofs.step_refusal.Tie as tie
 
 returns : tie.Need-returns
 unfolding first step-rows
-returns c = let at-moment = c .before in
+returns c =
+    let at-moment = c .before in
     let at-length = at-moment .before .before in
     rw (
       c .refusal .ensures,

@@ -2,7 +2,6 @@
 -- Assumes nothing.
 use mathlib.Core.Path.{refl}
 use borrow.Author.Tests.{lt-ltb, le-ltb}
-use borrow.Author.Needs.{needs}
 use Rattle.extractor.proofs.arriving.next_start.Statement.{statement}
 use Rattle.extractor.proofs.arriving.next_start.Tie as tie
 

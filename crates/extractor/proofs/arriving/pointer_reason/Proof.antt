@@ -14,35 +14,41 @@ abbrev start : tie.After-look-on → tie.Start
 start c = c .before .before .before .before .before
 
 returns : tie.Need-returns
-returns c = let at-start = c .before .before .before .before in
+returns c =
+    let at-start = c .before .before .before .before in
     none-held (at-start .pre .0) (at-start .args .pointer) (at-start .pre .1) (c .refused .result) (c .refused .ensures) (c .before .if1 .taken)
 
 add-look-on : tie.Need-add-look-on
 add-look-on c = record { fits = omega (arith, plain (c .before .before .before .before .pre .0)) }
 
 look-on-requires : tie.Need-look-on-requires
-look-on-requires c κs = let p = plain (c .before .before .before .before .pre .0) in
+look-on-requires c κs =
+    let p = plain (c .before .before .before .before .pre .0) in
     (omega (arith, p), (omega (arith, p), omega (arith, p)))
 
 returns-2 : tie.Need-returns-2
 unfolding says
-returns-2 c = let at-look = c .before .before in
+returns-2 c =
+    let at-look = c .before .before in
     damaged-held (start at-look .pre .0) (start at-look .args .pointer) (start at-look .pre .1) (at-look .before .before .if1 .left) _
     (at-look .look-on .ensures) (ap says (c .enum-told .given .1))
 
 returns-3 : tie.Need-returns-3
 unfolding says
-returns-3 c = let at-look = c .before .before in
+returns-3 c =
+    let at-look = c .before .before in
     damaged-held (start at-look .pre .0) (start at-look .args .pointer) (start at-look .pre .1) (at-look .before .before .if1 .left) _
     (at-look .look-on .ensures) (ap says (c .enum-told2 .given .1))
 
 returns-4 : tie.Need-returns-4
-returns-4 c = let at-look = c .before .before .before in
+returns-4 c =
+    let at-look = c .before .before .before in
     more-held (start at-look .pre .0) (start at-look .args .pointer) (start at-look .pre .1) (at-look .before .before .if1 .left) _
     (at-look .look-on .ensures) (c .refused2 .result) (c .refused2 .ensures) (c .before .enum-told3 .given .1)
 
 returns-5 : tie.Need-returns-5
-returns-5 c = let at-next = c .before in
+returns-5 c =
+    let at-next = c .before in
     let at-less = at-next .before in
     let at-total = at-less .before .before in
     let at-look = at-total .before .before in

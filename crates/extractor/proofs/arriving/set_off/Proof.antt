@@ -3,7 +3,6 @@
 use mathlib.Core.Path.{refl}
 use borrow.Author.Tests.{eq-eqb, ne-eqb}
 use Rattle.extractor.specs.Records.{set-off}
-use borrow.Author.Needs.{needs}
 use Rattle.extractor.proofs.arriving.set_off.Statement.{statement}
 use Rattle.extractor.proofs.arriving.set_off.Tie as tie
 

@@ -1,7 +1,6 @@
 -- `arriving::taken` meets its contract: what is said of the frame, and where its walk sets out.
 -- Assumes nothing.
-use mathlib.Core.Path.{_≡_, sym, ap, _∙_}
-use mathlib.Core.List.{List}
+use mathlib.Core.Path.{_≡_, ap, _∙_}
 use Rattle.frames.specs.Frame.{count, replay, pointer}
 use Rattle.frames.specs.declared.Heading.{Heading}
 use Rattle.frames.proofs.Accepted.{accepted-heading}
@@ -24,12 +23,14 @@ heads : (c : tie.Start) → c .args .heading ≡ record {
 heads c = c .pre .1 ∙ accepted-heading (c .args .s) (c .args .frame .now) (arrived c .accepts)
 
 reason-of-requires : tie.Need-reason-of-requires
-reason-of-requires c κs = let b = c .before .before .before .before in
+reason-of-requires c κs =
+    let b = c .before .before .before .before in
     (b .pre .0, (rw (← ap (λ (h : Heading). h .count) (heads b)) (c .lost-since .ensures), ap (λ (h : Heading). h .pointer) (heads b)))
 
 returns : tie.Need-returns
 unfolding entered-numbers
-returns c = let at-reason = c .before .before .before .before in
+returns c =
+    let at-reason = c .before .before .before .before in
     let b = at-reason .before .before .before .before .before in
     nothing-dropped (arrived b) _ _ _ _ _
     (ap (λ (h : Heading). h .count) (heads b)) (ap (λ (h : Heading). h .replay) (heads b)) (ap (λ (h : Heading). h .pointer) (heads b))
@@ -38,13 +39,13 @@ returns c = let at-reason = c .before .before .before .before in
 
 returns-2 : tie.Need-returns-2
 unfolding entered-numbers
-returns-2 c = let at-reason = c .before .before .before in
+returns-2 c =
+    let at-reason = c .before .before .before in
     let b = at-reason .before .before .before .before .before in
-    rw (c .before .before .held-in .ensures)
-    (all-dropped (arrived b) _ _ _ _ _
+    all-dropped (arrived b) _ _ _ _ _
     (ap (λ (h : Heading). h .count) (heads b)) (ap (λ (h : Heading). h .replay) (heads b)) (ap (λ (h : Heading). h .pointer) (heads b))
     (at-reason .before .lost-since .ensures) (at-reason .reason-of .ensures)
-    (c .set-off2 .result) (c .before .if1 .left) (c .set-off2 .ensures))
+    (c .before .before .held-in .result) (c .set-off2 .result) (c .before .before .held-in .ensures) (c .before .if1 .left) (c .set-off2 .ensures)
 
 pub taken-spec : {M : Type 1} → statement M
 taken-spec =

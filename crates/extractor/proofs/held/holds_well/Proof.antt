@@ -24,7 +24,8 @@ slice-aggregate-read-header c = sym (length-take-le _ _ (c .before .if2 .left))
 
 returns-3 : tie.Need-returns-3
 unfolding holds-well
-returns-3 c = let a = c .before .before .before .before .before .before .args in
+returns-3 c =
+    let a = c .before .before .before .before .before .before .args in
     let read = c .before .read-header in
     simp (ne-eqb _ _ (c .before .before .before .before .if1 .left), le-leb _ _ (c .before .before .before .if2 .left))
     (c .unfinished .ensures

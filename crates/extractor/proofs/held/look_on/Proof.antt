@@ -27,7 +27,8 @@ slice-aggregate-read-header : tie.Need-slice-aggregate-read-header
 slice-aggregate-read-header c = sym (length-take-le _ _ (within (c .before .before)))
 
 returns-2 : tie.Need-returns-2
-returns-2 c = let a = c .before .before .before .before .before .before .before .args in
+returns-2 c =
+    let a = c .before .before .before .before .before .before .before .args in
     c .read-header2 .ensures ∙ ap (reading (a .limit)) (c .before .before .before .start-of .ensures .0) ∙ reading-front (a .limit) _
 
 pub look-on-spec : {M : Type 1} → statement M

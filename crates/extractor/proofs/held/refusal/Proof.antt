@@ -21,7 +21,8 @@ reachable-requires : tie.Need-reachable-requires
 reachable-requires c κs = ranged c
 
 returns-2 : tie.Need-returns-2
-returns-2 c = let at-if1 = c .before .before .before .before in
+returns-2 c =
+    let at-if1 = c .before .before .before .before in
     rw (c .refused2 .ensures, c .before .before .refused .ensures, c .before .before .before .reachable .ensures, ranged at-if1) refl
 
 pub refusal-spec : {M : Type 1} → statement M

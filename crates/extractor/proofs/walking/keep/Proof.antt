@@ -14,7 +14,8 @@ use Rattle.extractor.proofs.walking.keep.Statement.{statement}
 use Rattle.extractor.proofs.walking.keep.Tie as tie
 
 returns : tie.Need-returns
-returns c = let a = c .before .before .before .before .before .before .args in
+returns c =
+    let a = c .before .before .before .before .before .before .args in
     let n : length (take (a .to - a .from) (drop (a .from) (a .frame .now))) ≡ a .to - a .from =
     length-run (a .frame .now) (a .from) (a .to - a .from) (omega arith) in
     rw n

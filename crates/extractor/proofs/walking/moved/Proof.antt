@@ -10,7 +10,8 @@ use Rattle.extractor.proofs.walking.moved.Statement.{statement}
 use Rattle.extractor.proofs.walking.moved.Tie as tie
 
 walk-requires : tie.Need-walk-requires
-walk-requires c κs = let at-start = c .before .before .before .before .before .before in
+walk-requires c κs =
+    let at-start = c .before .before .before .before .before .before in
     let a = at-start .args in
     walks (a .s) _ _ _ (a .store .now) (a .frame .now)
     (subst (λ (y : Extractor). first (step-rows (a .s) y (a .store .now) (a .frame .now)) ≡ 0) (c .before .before .x .given .1) (at-start .pre))

@@ -1,9 +1,8 @@
 -- `walking::walk` meets its contract: at each return the tests on the way say which case of the definition holds.
 -- Assumes nothing.
-use mathlib.Core.Path.{_∙_, ap, ap₂}
+use mathlib.Core.Path.{_∙_, ap}
 use native.Mathlib.Omega.{arith}
 use Rattle.packets.specs.Header.{says}
-use Rattle.extractor.specs.Records.{steps-to}
 use Rattle.extractor.proofs.Steps.{plain, step-more, step-damaged, step-later, step-frame, step-laid, more-room, whole-limit}
 use borrow.Author.Needs.{needs}
 use Rattle.extractor.proofs.walking.walk.Statement.{statement}
@@ -20,33 +19,39 @@ add-to : tie.Need-add-to
 add-to c = record { fits = omega (arith, plain (c .before .before .before .pre)) }
 
 look-on-requires : tie.Need-look-on-requires
-look-on-requires c κs = let p = plain (c .before .before .before .before .pre) in
+look-on-requires c κs =
+    let p = plain (c .before .before .before .before .pre) in
     ((omega (arith, p)), (omega (arith, p), omega (arith, p)))
 
 keep-requires : tie.Need-keep-requires
-keep-requires c κs = let at-look = c .before .before .before in
+keep-requires c κs =
+    let at-look = c .before .before .before in
     let p = plain (start at-look .pre) in
     let r = more-room (start at-look .pre) (start at-look .args .last) _ (at-look .look-on .ensures) (c .before .enum-told3 .given .1) in
     ((omega (arith, p), omega (arith, p)), r)
 
 add-if1 : tie.Need-add-if1
-add-if1 c = let at-look = c .before .before .before in
+add-if1 c =
+    let at-look = c .before .before .before in
     record { fits = omega (arith, plain (start at-look .pre), start at-look .good) }
 
 keep-requires-2 : tie.Need-keep-requires-2
-keep-requires-2 c κs = let at-look = c .before .before .before .before .before in
+keep-requires-2 c κs =
+    let at-look = c .before .before .before .before .before in
     let p = plain (start at-look .pre) in
     let r = whole-limit (start at-look .pre) (start at-look .args .last) _ (at-look .look-on .ensures) (c .before .before .before .idle .given .1) in
     ((omega (arith, p), omega (arith, p)), omega (arith, p, r, c .before .if1 .taken))
 
 returns : tie.Need-returns
-returns c = let at-look = c .before .before .before .before .before .before .before .before in
+returns c =
+    let at-look = c .before .before .before .before .before .before .before .before in
     c .before .before .keep2 .ensures
     ∙ step-later (start at-look .pre) (start at-look .args .last) _ (at-look .look-on .ensures)
     (c .before .before .before .before .before .before .idle .given .1) (c .before .before .before .before .if1 .taken)
 
 returns-2 : tie.Need-returns-2
-returns-2 c = let at-less = c .before .before in
+returns-2 c =
+    let at-less = c .before .before in
     let at-idle = at-less .before .before .before in
     let at-look = at-idle .before .before in
     rw (c .before .onward .ensures)
@@ -54,30 +59,35 @@ returns-2 c = let at-less = c .before .before in
     (at-less .before .if1 .left) _ (c .if2 .taken) (at-less .less .ensures))
 
 add-lay : tie.Need-add-lay
-add-lay c = let at-less = c .before .before .before in
+add-lay c =
+    let at-less = c .before .before .before in
     let at-look = at-less .before .before .before .before .before in
     let p = plain (start at-look .pre) in
     record { fits = omega (arith, p, at-less .less .ensures, at-less .before .if1 .left) }
 
 returns-3 : tie.Need-returns-3
 unfolding says
-returns-3 c = let at-look = c .before .before .before in
+returns-3 c =
+    let at-look = c .before .before .before in
     rw (c .abandoned .ensures .0, c .abandoned .ensures .1)
     (step-damaged (start at-look .pre) (start at-look .args .last) _ (at-look .look-on .ensures) (ap says (c .before .enum-told .given .1)))
 
 returns-4 : tie.Need-returns-4
 unfolding says
-returns-4 c = let at-look = c .before .before .before in
+returns-4 c =
+    let at-look = c .before .before .before in
     rw (c .abandoned2 .ensures .0, c .abandoned2 .ensures .1)
     (step-damaged (start at-look .pre) (start at-look .args .last) _ (at-look .look-on .ensures) (ap says (c .before .enum-told2 .given .1)))
 
 returns-5 : tie.Need-returns-5
-returns-5 c = let at-look = c .before .before .before .before .before .before in
+returns-5 c =
+    let at-look = c .before .before .before .before .before .before in
     c .before .before .keep .ensures
     ∙ step-more (start at-look .pre) (start at-look .args .last) _ (at-look .look-on .ensures) (c .before .before .before .before .enum-told3 .given .1)
 
 returns-6 : tie.Need-returns-6
-returns-6 c = let at-if2 = c .before .before .before .before in
+returns-6 c =
+    let at-if2 = c .before .before .before .before in
     let at-less = at-if2 .before .before in
     let at-idle = at-less .before .before .before in
     let at-look = at-idle .before .before in
