@@ -57,7 +57,7 @@ nil-of-length (x ∷ xs) h = absurd (omega arith)
 
 -- ---- events
 
-event-whole : (mark : Bool) (p : List ℕ) (es : List Event) → any-torn (as-event mark p ∷ es) ≡ any-torn es
+pub event-whole : (mark : Bool) (p : List ℕ) (es : List Event) → any-torn (as-event mark p ∷ es) ≡ any-torn es
 event-whole true p es = refl
 event-whole false p es = refl
 

@@ -1,7 +1,8 @@
 // The extractor: frames in, packets out, call by call.
 ghost use mathlib.Core.Path.{_≡_};
+ghost use mathlib.Core.List.{[]};
 ghost use Rattle.octets.specs.Basics.{first};
-ghost use Rattle.extractor.specs.Records.{step-rows, part-of, shown};
+ghost use Rattle.extractor.specs.Records.{checked, step-rows, part-of, shown};
 ghost use Rattle.extractor.specs.Answers.{enter-says, enter-answer, step-says, step-answer};
 use frames::Settings;
 
@@ -74,6 +75,13 @@ pub enum Found {
 pub struct Move {
     pub found: Found,
     pub next: Extractor,
+}
+
+// What any call with this record and store is refused for before it looks at the moment and the frame; 0 where it is not.
+pub fn record_refusal(s: Settings, x: Extractor, store: &[u8]) -> u8
+    ensures { λ r. ⌜ r ≡ first (checked s x (now (store .entry)) []) ⌝ }
+{
+    held::refusal(s, x, store, 0)
 }
 
 // Enters a frame: tells what was lost before it, compares its pointer, and sets out on its zone. The store is only read.

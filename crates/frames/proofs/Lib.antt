@@ -1,5 +1,6 @@
 pub mod Accepted
 pub mod Framed
+pub mod Headings
 pub mod Heads
 pub mod ReadBack
 pub mod Rows

@@ -1,15 +1,15 @@
 -- Headers that were written are read back, field by field; and a frame that is not refused is its headers, written again, and its zone.
 -- Assumes nothing.
-use mathlib.Core.Path.{_≡_, refl, sym, ap, _∙_}
+use mathlib.Core.Path.{_≡_, sym, ap, _∙_}
 use mathlib.Core.List.{List, _++_, append-assoc}
-use mathlib.Core.Bool.{true}
-use Prim.Native.Nat.{ℕ, _+_, _%_, _^_, _≤_, _<_}
+use mathlib.Core.Bool.{Bool, true}
+use Prim.Native.Nat.{ℕ, _+_, _-_, _%_, _^_, _≤_, _<_}
 use native.Mathlib.Nat.{mod-eq-of-lt, mod-one}
 use native.Mathlib.Omega.{arith}
 use lib.Dec.{lit<}
 use lib.ListN.{length, take, drop, length-append, length-drop, take-append-drop}
 use lib.Seq.{take-at, drop-at, take-add, take-all}
-use Rattle.octets.specs.Basics.{field, number, octets, read, write, first}
+use Rattle.octets.specs.Basics.{field, placed, number, octets, read, write, first}
 use Rattle.octets.proofs.Fields.{placed-read, placed-below, placed-lt, placed-within, field-lt, agree-on, foot-read, foot-above, foot-lt, foot-only}
 use Rattle.octets.proofs.Numbers.{Octets, number-octets, octets-again, run-lt}
 use Rattle.octets.proofs.Written.{length-octets}
@@ -17,8 +17,8 @@ use Rattle.frames.specs.Link.{head-word, headers, primary, zone-head, ve
 use Rattle.frames.specs.Frame.{in-range, frame-length, frame-rows, zone-of, version, spacecraft, channel, count, replay, spare, zone-spare, zone-spare-place, pointer, pointer-place, pointer-word, head}
 use Rattle.frames.specs.declared.Link.{Link}
 use Rattle.frames.specs.declared.Settings.{Settings}
-use Rattle.frames.proofs.Rows.{sound-frame}
-use Rattle.frames.proofs.Settled.{Settled, settled}
+use Rattle.frames.proofs.Rows.{SoundHeader, sound-frame}
+use Rattle.frames.proofs.Settled.{Linked, Settled, settled}
 
 -- the word of the frame's own header, as its fields are put in one after the other
 module _ (l : Link) (c r : ℕ) where
@@ -165,23 +165,29 @@ frame-parts l f o h =
     let both : take 8 f ≡ octets 6 (number (take 6 f)) ++ octets 2 (number (take 2 (drop 6 f))) = rw (six, two) (take-add 6 2 f) in
     sym (take-append-drop 8 f) ∙ ap (λ (g : List ℕ). g ++ drop 8 f) both
 
+-- a frame whose headers are right is these, written again from what is read, and what follows them; for any width of the pointer
+pub headers-again : (l : Link) (f : List ℕ) (width spare : ℕ) (unused : Bool) → Linked l → Octets f → 8 ≤ length f → width ≤ 16
+    → SoundHeader l (primary l f) spare unused → field (zone-head l f) width (16 - width) ≡ 0
+    → f ≡ headers l (read count-place (primary l f)) (read replay-place (primary l f)) (placed 0 0 width (field (zone-head l f) 0 width)) ++ drop 8 f
+unfolding headers
+headers-again l f width spare unused bounds o room narrow h clear =
+    let w : primary l f ≡ head-word l (read count-place (primary l f)) (read replay-place (primary l f)) =
+    word-by-fields l (primary l f) (primary-lt l f o (omega arith))
+    (h .version-right) (h .spacecraft-right) (h .channel-right) (h .spare-clear) (bounds .spacecraft-most) (bounds .channel-most) in
+    let z : zone-head l f ≡ placed 0 0 width (field (zone-head l f) 0 width) =
+    foot-only 16 width (zone-head l f) (omega arith) narrow (zone-head-lt l f o room) clear in
+    frame-parts l f o room ∙ cc (w, z)
+
 -- a frame that is not refused is its headers, written again from what is read, and its zone
 pub frame-again : (s : Settings) (f : List ℕ) → in-range s ≡ true → Octets f → first (frame-rows s f) ≡ 0
     → f ≡ headers (s .link) (count s f) (replay s f) (pointer-word (pointer s f)) ++ zone-of s f
-unfolding headers zone-of frame-length
+unfolding zone-of frame-length
 frame-again s f e o r =
-    let bounds = settled s e .on-link in
     let sound = sound-frame s f r in
-    let h = sound .header in
     let long : length f ≡ s .zone + 8 = sound .length-right in
-    let w : primary (s .link) f ≡ head-word (s .link) (count s f) (replay s f) =
-    word-by-fields (s .link) (primary (s .link) f) (primary-lt (s .link) f o (omega arith))
-    (h .version-right) (h .spacecraft-right) (h .channel-right) (h .spare-clear) (bounds .spacecraft-most) (bounds .channel-most) in
-    let z : zone-head (s .link) f ≡ pointer-word (pointer s f) =
-    foot-only 16 11 (zone-head (s .link) f) (omega arith) (omega arith) (zone-head-lt (s .link) f o (omega arith)) (h .zone-spare-clear) in
     let all : take (s .zone) (drop 8 f) ≡ drop 8 f = take-all (s .zone) (drop 8 f) (rw length-drop (omega arith)) in
-    frame-parts (s .link) f o (omega arith)
-    ∙ cc (w, z, all)
+    headers-again (s .link) f 11 _ _ (settled s e .on-link) o (omega arith) (omega arith) (sound .header) (sound .header .zone-spare-clear)
+    ∙ ap (λ (z : List ℕ). headers (s .link) (count s f) (replay s f) (pointer-word (pointer s f)) ++ z) (sym all)
 
 -- ---- a frame of a packet channel that begins with its written head is read back
 

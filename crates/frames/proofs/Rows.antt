@@ -1,51 +1,18 @@
--- What a frame is refused for and what its header says, with the numbers as the code reads them.
+-- What a frame that is not refused is like, row by row.
 -- Assumes nothing.
 use mathlib.Core.Path.{_≡_, refl, _∙_}
 use mathlib.Core.List.{List}
-use mathlib.Core.Bool.{Bool, true, false, not}
+use mathlib.Core.Bool.{Bool, false, not}
 use Prim.Native.Nat.{ℕ, _+_}
-use native.Mathlib.Omega.{arith}
 use lib.ListN.{length}
-use lib.Dec.{leb, eqb}
-use borrow.Author.Tests.{eqb-true, not-false}
-use Rattle.octets.specs.Basics.{pick, and, read, number-at, first}
+use lib.Dec.{leb}
+use borrow.Author.Tests.{eq-eqb, eqb-true, not-false}
+use Rattle.octets.specs.Basics.{and, read, first}
 use Rattle.octets.proofs.Choices.{and-true, none-holds}
-use Rattle.octets.proofs.Numbers.{number-within}
-use Rattle.frames.specs.Link.{primary, zone-head, header-rows, version-place, spacecraft-place, channel-place, count-place, replay-place, spare-place}
-use Rattle.frames.specs.Frame.{frame-length, frame-rows, heading, heading-of, zone-spare-place, zone-spare, pointer-place, pointer}
+use Rattle.frames.specs.Link.{primary, header-rows, version-place, spacecraft-place, channel-place, spare-place}
+use Rattle.frames.specs.Frame.{frame-length, frame-rows, zone-spare, pointer}
 use Rattle.frames.specs.declared.Link.{Link}
 use Rattle.frames.specs.declared.Settings.{Settings}
-use Rattle.frames.specs.declared.Heading.{Heading}
-
--- a frame of the right length has both headers
-module _ (s : Settings) (f : List ℕ) (long : eqb (length f) (frame-length s) ≡ true) where
-  length-is : length f ≡ s .zone + 8
-  unfolding frame-length
-  length-is = eqb-true (length f) (frame-length s) long
-
-  primary-at : number-at 6 0 f ≡ primary (s .link) f
-  unfolding primary
-  primary-at = number-within 6 0 f (omega (arith, length-is))
-
-  zone-head-at : number-at 2 6 f ≡ zone-head (s .link) f
-  unfolding zone-head
-  zone-head-at = number-within 2 6 f (omega (arith, length-is))
-
-abbrev rows-by : Settings → ℕ → ℕ → ℕ
-rows-by s head zone =
-    first (header-rows (s .link) head (read zone-spare-place zone) (and (leb (s .zone) (read pointer-place zone)) (leb (read pointer-place zone) 2045)))
-
-abbrev heading-by : ℕ → ℕ → ℕ → Heading
-heading-by n head zone = heading-of n (read count-place head) (read replay-place head) (read pointer-place zone)
-
-pub heading-reads : (s : Settings) (f : List ℕ) (t : Bool) (n head zone : ℕ) → eqb (length f) (frame-length s) ≡ t
-    → head ≡ number-at 6 0 f → zone ≡ number-at 2 6 f → n ≡ pick (not t) 3 (rows-by s head zone)
-    → heading-by n head zone ≡ heading s f
-unfolding heading heading-of frame-rows first
-heading-reads s f true n head zone e h z r = rw (r, h, z, primary-at s f e, zone-head-at s f e, e) refl
-heading-reads s f false n head zone e h z r = rw (r, e) refl
-
--- ---- a frame that is not refused
 
 pub record SoundHeader (l : Link) (head zone-spare : ℕ) (unused : Bool) : Type 0 where
   pub version-right : read version-place head ≡ 1
@@ -73,6 +40,12 @@ sound-header l head zone-spare unused e =
       zone-spare-clear = eqb-true _ _ (spares .1);
       pointer-used = p .0;
     }
+
+-- a header whose fields are right is not refused
+pub header-taken : (l : Link) (head spare : ℕ) (unused : Bool) → SoundHeader l head spare unused → first (header-rows l head spare unused) ≡ 0
+unfolding first header-rows
+header-taken l head spare unused h =
+    rw (eq-eqb _ _ (h .version-right), eq-eqb _ _ (h .spacecraft-right), eq-eqb _ _ (h .channel-right), eq-eqb _ _ (h .spare-clear), eq-eqb _ _ (h .zone-spare-clear), h .pointer-used) refl
 
 pub record SoundFrame (s : Settings) (f : List ℕ) : Type 0 where
   pub length-right : length f ≡ frame-length s

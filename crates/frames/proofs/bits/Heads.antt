@@ -2,23 +2,21 @@
 -- Assumes nothing.
 use mathlib.Core.Path.{_≡_, refl, sym, ap, _∙_}
 use mathlib.Core.List.{List, _++_}
-use mathlib.Core.Bool.{Bool, true, false}
+use mathlib.Core.Bool.{true, false}
 use Prim.Native.Nat.{ℕ, _+_, _-_, _^_, _≤_, _<_}
 use native.Mathlib.Omega.{arith}
 use lib.ListN.{length, take, drop, length-drop}
 use lib.Seq.{take-all}
 use borrow.Author.Tests.{lt-ltb, le-ltb, eq-eqb, eqb-true, not-false}
-use Rattle.octets.specs.Basics.{field, read, placed, first}
+use Rattle.octets.specs.Basics.{read, first}
 use Rattle.octets.proofs.Choices.{none-holds}
-use Rattle.octets.proofs.Fields.{foot-read, foot-above, foot-lt, foot-only}
+use Rattle.octets.proofs.Fields.{foot-read, foot-above, foot-lt}
 use Rattle.octets.proofs.Numbers.{Octets}
-use Rattle.frames.specs.Link.{head-word, headers, primary, zone-head, header-rows, count-place, replay-place, count-width}
+use Rattle.frames.specs.Link.{head-word, headers, primary, zone-head, count-place, replay-place, count-width}
 use Rattle.frames.specs.BitFrame.{bits-in-range, bit-frame-length, bit-frame-rows, bit-zone-of, bit-count, bit-replay, bit-spare, bit-spare-place, bit-pointer, bit-pointer-place, bit-unused, bit-head, bit-head-rows, bit-pointer-word}
-use Rattle.frames.specs.declared.Link.{Link}
 use Rattle.frames.specs.declared.bits.BitSettings.{BitSettings}
-use Rattle.frames.proofs.Settled.{Linked}
-use Rattle.frames.proofs.Rows.{SoundHeader, sound-header}
-use Rattle.frames.proofs.ReadBack.{length-headers, primary-written, zone-head-written, version-written, spacecraft-written, channel-written, count-written, replay-written, spare-written, word-by-fields, primary-lt, zone-head-lt, frame-parts}
+use Rattle.frames.proofs.Rows.{SoundHeader, sound-header, header-taken}
+use Rattle.frames.proofs.ReadBack.{length-headers, primary-written, zone-head-written, version-written, spacecraft-written, channel-written, count-written, replay-written, spare-written, headers-again}
 use Rattle.frames.proofs.bits.Settled.{BitsSettled}
 
 pub bit-head-taken : (s : BitSettings) (c p : ℕ) (d : List ℕ) → bits-in-range s ≡ true → c < 2 ^ 24 → p < 2 ^ 14 → 8 ≤ length d
@@ -29,12 +27,6 @@ bit-head-taken s c p d e h k r = rw (e, lt-ltb c (2 ^ 24) h, lt-ltb p (2 ^ 14) k
 pub length-bit-head : (s : BitSettings) (c p : ℕ) → length (bit-head s c p) ≡ 8
 unfolding bit-head
 length-bit-head s c p = length-headers (s .link) c 0 (bit-pointer-word p)
-
--- a header whose fields are right is not refused
-header-taken : (l : Link) (head spare : ℕ) (unused : Bool) → SoundHeader l head spare unused → first (header-rows l head spare unused) ≡ 0
-unfolding first header-rows
-header-taken l head spare unused h =
-    rw (eq-eqb _ _ (h .version-right), eq-eqb _ _ (h .spacecraft-right), eq-eqb _ _ (h .channel-right), eq-eqb _ _ (h .spare-clear), eq-eqb _ _ (h .zone-spare-clear), h .pointer-used) refl
 
 -- ---- a frame that begins with its written head is read back
 
@@ -86,19 +78,6 @@ unfolding bit-frame-rows
 sound-bits s f e =
     let n = none-holds 2 _ _ e in
     record { length-right = eqb-true _ _ (not-false _ (n .0)); header = sound-header _ _ _ _ (n .1) }
-
--- a frame whose headers are right is these, written again from what is read, and what follows them; for any width of the pointer
-headers-again : (l : Link) (f : List ℕ) (width spare : ℕ) (unused : Bool) → Linked l → Octets f → 8 ≤ length f → width ≤ 16
-    → SoundHeader l (primary l f) spare unused → field (zone-head l f) width (16 - width) ≡ 0
-    → f ≡ headers l (read count-place (primary l f)) (read replay-place (primary l f)) (placed 0 0 width (field (zone-head l f) 0 width)) ++ drop 8 f
-unfolding headers
-headers-again l f width spare unused bounds o room narrow h clear =
-    let w : primary l f ≡ head-word l (read count-place (primary l f)) (read replay-place (primary l f)) =
-    word-by-fields l (primary l f) (primary-lt l f o (omega arith))
-    (h .version-right) (h .spacecraft-right) (h .channel-right) (h .spare-clear) (bounds .spacecraft-most) (bounds .channel-most) in
-    let z : zone-head l f ≡ placed 0 0 width (field (zone-head l f) 0 width) =
-    foot-only 16 width (zone-head l f) (omega arith) narrow (zone-head-lt l f o room) clear in
-    frame-parts l f o room ∙ cc (w, z)
 
 -- a frame that is not refused is its headers, written again from what is read, and its zone
 pub bit-frame-again : (s : BitSettings) (f : List ℕ) → BitsSettled s → Octets f → first (bit-frame-rows s f) ≡ 0

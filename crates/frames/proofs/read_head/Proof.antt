@@ -3,11 +3,12 @@
 use mathlib.Core.Path.{refl}
 use native.Mathlib.Omega.{arith}
 use lib.ListN.{length}
-use lib.Dec.{eqb}
+use lib.Dec.{leb, eqb}
 use borrow.Author.Needs.{needs}
+use Rattle.octets.specs.Basics.{and}
 use Rattle.octets.proofs.Fields.{field-lt}
-use Rattle.frames.specs.Frame.{frame-length}
-use Rattle.frames.proofs.Rows.{heading-reads}
+use Rattle.frames.specs.Frame.{frame-length, frame-rows, heading, zone-spare-place, pointer-place}
+use Rattle.frames.proofs.Headings.{heading-reads}
 use Rattle.frames.proofs.read_head.Statement.{statement}
 use Rattle.frames.proofs.read_head.Tie as tie
 
@@ -17,12 +18,15 @@ heading-of-requires c κs =
     omega (arith, at-field .field .ensures, field-lt (at-field .before .number2 .result) 0 11)
 
 returns : tie.Need-returns
+unfolding heading frame-rows frame-length
 returns c =
     let at-field = c .before .before .before .before .before in
     let start = at-field .before .before .before .before in
-    let a = start .args in
+    let s = start .args .s in
+    let f = start .args .frame .now in
     rw (c .heading-of .ensures, at-field .field .ensures)
-    (heading-reads (a .s) (a .frame .now) (eqb (length (a .frame .now)) (frame-length (a .s))) _ _ _ refl
+    (heading-reads (s .link) zone-spare-place pointer-place (λ p. and (leb (s .zone) p) (leb p 2045)) f (frame-length s)
+    (eqb (length f) (frame-length s)) _ _ _ (omega arith) refl
     (at-field .before .before .number6 .ensures)
     (at-field .before .number2 .ensures)
     (cc))

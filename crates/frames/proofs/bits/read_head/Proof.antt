@@ -11,7 +11,7 @@ use Rattle.octets.proofs.Choices.{leb-iff}
 use Rattle.octets.proofs.Fields.{field-lt}
 use Rattle.frames.specs.BitFrame.{bit-frame-length, bit-frame-rows, bit-heading, bit-unused, bit-spare-place, bit-pointer-place}
 use Rattle.frames.specs.declared.bits.BitSettings.{BitSettings}
-use Rattle.frames.proofs.bits.Headings.{heading-reads}
+use Rattle.frames.proofs.Headings.{heading-reads}
 use Rattle.frames.proofs.bits.read_head.Statement.{statement}
 use Rattle.frames.proofs.bits.read_head.Tie as tie
 

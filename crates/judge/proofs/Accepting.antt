@@ -1,0 +1,66 @@
+-- What a call with a frame that no row refuses has.
+-- Assumes nothing.
+use mathlib.Core.Path.{_≡_, refl}
+use mathlib.Core.List.{List}
+use mathlib.Core.Bool.{true}
+use Prim.Native.Nat.{ℕ, _≤_, _<_}
+use lib.ListN.{length}
+use borrow.Author.Tests.{ltb-false, leb-false, not-false}
+use Rattle.octets.specs.Basics.{first}
+use Rattle.octets.proofs.Choices.{and-true, none-holds}
+use Rattle.octets.proofs.Tests.{and-both}
+use Rattle.frames.specs.Frame.{in-range}
+use Rattle.frames.specs.declared.Settings.{Settings}
+use Rattle.extractor.specs.Records.{reachable}
+use Rattle.extractor.specs.declared.Extractor.the-variants.{InStep}
+use Rattle.extractor.proofs.Places.{holds-none}
+use Rattle.judge.specs.Calls.{most-frames, tally-of, judge-reachable, frame-refusals}
+use Rattle.judge.specs.Trials.{Tries}
+use Rattle.judge.specs.declared.Judge.{Judge}
+use Rattle.judge.specs.declared.Judge.the-variants.{Open, Sound}
+use Rattle.judge.proofs.Opening.{before-on-wheel, ready}
+
+pub record Accepts (s : Settings) (store : List ℕ) (j : Judge) : Type 0 where
+  pub ranged : in-range s ≡ true
+  pub room : s .limit ≤ length store
+  pub reached : judge-reachable s store j ≡ true
+  pub few : tally-of j < most-frames
+
+pub accepts : (s : Settings) (store : List ℕ) (j : Judge) → first (frame-refusals s store j) ≡ 0 → Accepts s store j
+unfolding frame-refusals
+accepts s store j e =
+    let a = none-holds 0 _ _ e in
+    let b = none-holds 1 _ _ (a .1) in
+    let c = none-holds 9 _ _ (b .1) in
+    let d = none-holds 10 _ _ (c .1) in
+    record {
+      ranged = not-false _ (a .0);
+      room = ltb-false _ _ (b .0);
+      reached = not-false _ (c .0);
+      few = leb-false most-frames (tally-of j) (d .0);
+    }
+
+pub sound-tries : {s : Settings} {store : List ℕ} {tally last held : ℕ} → Accepts s store (Sound tally last held)
+    → Tries s tally (InStep last held) store
+unfolding judge-reachable
+sound-tries {s} {store} {tally} {last} {held} a = record {
+  ranged = a .ranged;
+  room = a .room;
+  few = a .few;
+  last = last;
+  held = held;
+  between = refl;
+  reached = and-true (reachable s store (InStep last held)) _ (a .reached) .0;
+}
+
+pub open-tries : {s : Settings} {store : List ℕ} (c : ℕ) → Accepts s store Open → Tries s 0 (ready s c) store
+unfolding reachable
+open-tries {s} {store} c a = record {
+  ranged = a .ranged;
+  room = a .room;
+  few = a .few;
+  last = _;
+  held = 0;
+  between = refl;
+  reached = and-both (before-on-wheel s c) (holds-none s store);
+}

@@ -1,0 +1,3 @@
+pub mod Judge
+pub mod Calls
+pub mod Trials

@@ -1,0 +1,48 @@
+-- What the parts of a call that is not refused go by.
+use mathlib.Core.Path.{_≡_}
+use mathlib.Core.List.{List}
+use mathlib.Core.Bool.{true, not}
+use Prim.Native.Nat.{ℕ, suc, _+_, _≤_, _<_}
+use lib.ListN.{length}
+use lib.Dec.{ltb}
+use Rattle.octets.specs.Basics.{pick}
+use Rattle.frames.specs.Frame.{in-range}
+use Rattle.frames.specs.declared.Settings.{Settings}
+use Rattle.extractor.specs.Records.{reachable}
+use Rattle.extractor.specs.Calls.{Finds, steps, SpentLast}
+use Rattle.extractor.specs.declared.Extractor.{Extractor}
+use Rattle.extractor.specs.declared.Extractor.the-variants.{Fresh, Astray, InStep, Walking, Leaving}
+use Rattle.judge.specs.Calls.{most-frames, judge-reachable, faults-at}
+use Rattle.judge.specs.declared.Judge.{Judge}
+use Rattle.judge.specs.declared.Judge.the-variants.{Sound}
+
+-- what settings, store and record are refused for; else what is refused below them
+abbrev pub refused-above : Settings → List ℕ → Judge → ℕ → ℕ
+refused-above s store j below =
+    pick (not (in-range s)) 1 (pick (ltb (length store) (s .limit)) 2 (pick (not (judge-reachable s store j)) 10 below))
+
+-- all the steps of a frame that is entered
+abbrev pub through : Settings → List ℕ → Extractor → List ℕ → Finds
+through s f x store = steps s f (suc (s .zone)) x store
+
+-- they spend it
+abbrev pub Spends : Settings → List ℕ → Extractor → List ℕ → Type 0
+Spends s f x store = SpentLast (through s f x store .found)
+
+-- frame n, before which the extractor is in step
+pub record Tries (s : Settings) (n : ℕ) (x : Extractor) (store : List ℕ) : Type 0 where
+  pub ranged : in-range s ≡ true
+  pub room : s .limit ≤ length store
+  pub few : n < most-frames
+  pub last : ℕ
+  pub held : ℕ
+  pub between : x ≡ InStep last held
+  pub reached : reachable s store x ≡ true
+
+-- the judge after frame n, from the extractor's record: only damage leaves that out of step
+unfoldable pub goes-on-from : ℕ → Extractor → Judge
+goes-on-from n Fresh = faults-at n
+goes-on-from n (Astray last) = faults-at n
+goes-on-from n (InStep last held) = Sound (n + 1) last held
+goes-on-from n (Walking last held at) = faults-at n
+goes-on-from n (Leaving last) = faults-at n

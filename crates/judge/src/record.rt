@@ -1,0 +1,89 @@
+// The judge's record: whether the rules can reach it, and the verdict that it comes to.
+ghost use mathlib.Core.Path.{_≡_};
+ghost use mathlib.Core.Bool.{true};
+ghost use Rattle.frames.specs.Frame.{in-range};
+ghost use Rattle.judge.specs.Calls.{tally-of, counts-well, extractor-of, judge-close, closes-with};
+ghost use Rattle.judge.specs.Trials.{refused-above};
+use crate::Closed;
+use crate::Judge;
+use crate::MOST_FRAMES;
+use extractor::Extractor;
+use frames::Settings;
+
+// The frames that it has seen.
+pub(crate) fn tally_of(j: Judge) -> u32
+    ensures { λ r. ⌜ r ≡ tally-of j ⌝ }
+{
+    match j {
+        Judge::Open => 0,
+        Judge::Sound {
+            tally,
+            last: _,
+            held: _,
+        } => tally,
+        Judge::Faulty { tally, at: _ } => tally,
+    }
+}
+
+// Whether its numbers can be those of a run.
+fn counts_well(s: Settings, j: Judge) -> bool
+    requires { ⌜ in-range s ≡ true ⌝ }
+    ensures { λ r. ⌜ r ≡ counts-well s j ⌝ }
+{
+    match j {
+        Judge::Open => true,
+        Judge::Sound {
+            tally,
+            last: _,
+            held,
+        } => (1 <= tally) & ((tally <= MOST_FRAMES) & (held <= tally as usize * s.zone)),
+        Judge::Faulty { tally, at } => (at < tally) & (tally <= MOST_FRAMES),
+    }
+}
+
+// The extractor's record that goes on from it; a fresh one where nothing is held.
+fn extractor_of(j: Judge) -> Extractor
+    ensures { λ r. ⌜ r ≡ extractor-of j ⌝ }
+{
+    match j {
+        Judge::Open => Extractor::Fresh,
+        Judge::Sound {
+            tally: _,
+            last,
+            held,
+        } => Extractor::InStep { last, held },
+        Judge::Faulty { tally: _, at: _ } => Extractor::Fresh,
+    }
+}
+
+// What settings, store and record are refused for; else what is refused below them.
+pub(crate) fn refusal(s: Settings, j: Judge, store: &[u8], below: u8) -> u8
+    ensures { λ r. ⌜ r ≡ refused-above s (now (store .entry)) j below ⌝ }
+{
+    let holding = extractor::record_refusal(s, extractor_of(j), store);
+    if holding != 0 {
+        return holding;
+    }
+    octets::refused(!counts_well(s, j), 10, below)
+}
+
+// The verdict that it comes to.
+pub(crate) fn verdict(j: Judge) -> Closed
+    ensures { λ r. ⌜ r ≡ closes-with (judge-close j) ⌝ }
+{
+    match j {
+        Judge::Open => Closed::Pass,
+        Judge::Sound {
+            tally,
+            last: _,
+            held,
+        } => {
+            if held == 0 {
+                Closed::Pass
+            } else {
+                Closed::Fault { at: tally }
+            }
+        }
+        Judge::Faulty { tally: _, at } => Closed::Fault { at },
+    }
+}
