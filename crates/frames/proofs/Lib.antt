@@ -6,3 +6,4 @@ pub mod ReadBack
 pub mod Rows
 pub mod Settled
 pub mod Wheel
+pub mod Passes

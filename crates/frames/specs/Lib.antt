@@ -1,3 +1,4 @@
 pub mod Link
 pub mod Frame
 pub mod BitFrame
+pub mod Passes

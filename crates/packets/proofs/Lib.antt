@@ -9,3 +9,4 @@ pub mod Rounds
 pub mod Spaces
 pub mod Determined
 pub mod Begun
+pub mod Passes

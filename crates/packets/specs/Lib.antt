@@ -4,3 +4,4 @@ pub mod Front
 pub mod Idle
 pub mod Wrap
 pub mod Space
+pub mod Passes
