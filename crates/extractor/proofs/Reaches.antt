@@ -161,7 +161,7 @@ keeps-on s f store (break d low) e = apart (let z : false ≡ true = rw d at e i
 keeps-on s f store {h = h} {at = at} (give {l = l} packed w fits seen rest low high same far) e =
     absurd (omega (arith, ltb-true (length (ahead s f store h at)) l (rw w at e)))
 
-all-framed : (s : Settings) (c p : ℕ) (z : List ℕ) → AllOctets z → AllOctets (framed s c p z)
+pub all-framed : (s : Settings) (c p : ℕ) (z : List ℕ) → AllOctets z → AllOctets (framed s c p z)
 unfolding framed head headers
 all-framed s c p z small =
     let front : List ℕ = octets 6 (head-word (s .link) c 0) in
@@ -194,7 +194,7 @@ begun-before limit xs ys room e = go (look limit xs) refl
         (omega (arith, ltb-true (length (xs ++ ys)) l (rw (look-append limit xs ys room m) at e), length-append xs ys))
 
 -- a zone that a packet begun outlasts has no start
-outlasted-agrees : (s : Settings) (held z : List ℕ) → 1 ≤ length held → length z ≡ s .zone → Begun (s .limit) (held ++ z)
+pub outlasted-agrees : (s : Settings) (held z : List ℕ) → 1 ≤ length held → length z ≡ s .zone → Begun (s .limit) (held ++ z)
     → agreed s held z ≡ some (no-start ∷ [])
 unfolding agreed agreed-look unfinished
 outlasted-agrees s [] z some-held fits e = absurd (omega arith)
@@ -257,15 +257,19 @@ module _ (s : Settings) (store : List ℕ) (ok : in-range s ≡ true) (room : s 
       subst (λ (w : Stepped). Reached s (w .next) (w .store)) (step-next s x store f e) (steps f f-small d)
 
   -- octets kept for later that the store holds already
-  led-kept : (f : List ℕ) {c h at n : ℕ} → AllOctets f → length f ≡ frame-length s → Place s store h at → Reached s (Walking c h at) store
-      → ahead s f store h at ≡ take n store → n ≤ length store → BegunIn s store n → Reached s (InStep c n) store
-  unfolding is-entered
-  led-kept f {c} {h} {at} {n} f-small right p d same fits begun =
+  pub kept-step : (f : List ℕ) {c h at n : ℕ} → length f ≡ frame-length s → Place s store h at → ahead s f store h at ≡ take n store
+      → n ≤ length store → BegunIn s store n → step s f store (Walking c h at) ≡ steps-to Spent (InStep c n) store
+  kept-step f {c} {h} {at} {n} right p same fits begun =
       let here : length (ahead s f store h at) ≡ n = ap length same ∙ length-take-le n store fits in
       let e = keeps-on s f store (walking-turn s f store ok right room c p) (rw (here, same) begun) in
       let back : ahead s f store h at ++ drop (length (ahead s f store h at)) store ≡ store = rw (here, same) (take-append-drop n store) in
-      let e′ : step s f store (Walking c h at) ≡ steps-to Spent (InStep c n) store = e ∙ ap₂ (λ m st. steps-to Spent (InStep c m) st) here back in
-      subst (λ (w : Stepped). Reached s (w .next) (w .store)) e′ (led-step f f-small right refl d)
+      e ∙ ap₂ (λ m st. steps-to Spent (InStep c m) st) here back
+
+  led-kept : (f : List ℕ) {c h at n : ℕ} → AllOctets f → length f ≡ frame-length s → Place s store h at → Reached s (Walking c h at) store
+      → ahead s f store h at ≡ take n store → n ≤ length store → BegunIn s store n → Reached s (InStep c n) store
+  unfolding is-entered
+  led-kept f f-small right p d same fits begun =
+      subst (λ (w : Stepped). Reached s (w .next) (w .store)) (kept-step f right p same fits begun) (led-step f f-small right refl d)
 
   -- from nothing, a frame leads where its pointer says
   from-fresh : (c p : ℕ) (z : List ℕ) → AllOctets z → Framed s c p z (framed s c p z) → Reached s (set-out s c p astray) store
@@ -350,7 +354,7 @@ module _ (s : Settings) (store : List ℕ) (ok : in-range s ≡ true) (room : s 
       enter-held s (take h store) f z c p c-small r agree not-idle ∙ ap (λ n. Walking c n 0) here in
       subst (λ (y : Extractor). Reached s y store) e (led-in {x = InStep (before c) h} c p z z-small r refl d)
 
-  begun-within : (h n : ℕ) → h + n ≤ length store → BegunIn s store (h + n) → BegunIn s store h
+  pub begun-within : (h n : ℕ) → h + n ≤ length store → BegunIn s store (h + n) → BegunIn s store h
   begun-within h n fits begun =
       let joined : take h store ++ take n (drop h store) ≡ take (h + n) store = sym (take-add h n store) in
       let all-length : length (take h store ++ take n (drop h store)) ≡ h + n = ap length joined ∙ length-take-le (h + n) store fits in
@@ -401,7 +405,7 @@ module _ (s : Settings) (store : List ℕ) (ok : in-range s ≡ true) (room : s 
       led-on z c h p c-small fits z-small (framed-is s c p z ok c-small (a .short) z-length (a .used)) (a .agrees) (a .not-idle)
       (led-held h (before c) h (omega arith) (omega arith) fits begun)
 
-  counted : (c : ℕ) → on-wheel s c ≡ true → c < 2 ^ 24
+  pub counted : (c : ℕ) → on-wheel s c ≡ true → c < 2 ^ 24
   unfolding count-width
   counted c wheel = ltb-true c (2 ^ 24) wheel
 

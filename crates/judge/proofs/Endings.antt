@@ -55,7 +55,7 @@ walked-ending s held f =
 -- ---- the record that it leaves
 
 -- a record between frames that stands for being in step, or out of step
-between-in-step : (c : ℕ) (os store : List ℕ) (x : Extractor) → is-entered x ≡ false
+pub between-in-step : (c : ℕ) (os store : List ℕ) (x : Extractor) → is-entered x ≡ false
     → stands-for store x ≡ record { last = some c; step = in-step os } → x ≡ InStep c (held-in x)
 unfolding is-entered stands-for
 between-in-step c os store Fresh between e = let last : none ≡ some c = ap (λ (st : State). st .last) e in apart (cc)

@@ -69,7 +69,7 @@ entered s x f e =
     }
 
 module _ {s : Settings} {x : State} {f : List ℕ} (h : Enters s x f) where
-  no-reason : reason-of s x f ≡ 0
+  pub no-reason : reason-of s x f ≡ 0
   no-reason = reason-within s x f (h .lost) ∙ h .reason
 
   pub entered-faultless : faulty-entry s x f ≡ false

@@ -1,8 +1,14 @@
 pub mod Accepting
+pub mod Advances
 pub mod Endings
 pub mod Entering
 pub mod Faults
 pub mod Opening
+pub mod Reaches
 pub mod Rows
+pub mod Runs
 pub mod Spending
+pub mod Theorems
 pub mod Trying
+pub mod Verdicts
+pub mod Determined

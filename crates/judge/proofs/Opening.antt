@@ -41,7 +41,7 @@ abbrev pub ready : Settings → ℕ → Extractor
 ready s c = InStep (count-before s c) 0
 
 module _ (s : Settings) (store f : List ℕ) where
-  says-as-opened : take-in s (stands-for store (ready s (count s f))) f ≡ take-in s opened f
+  pub says-as-opened : take-in s (stands-for store (ready s (count s f))) f ≡ take-in s opened f
   unfolding stands-for take-in step-of reason-of lost-since
   says-as-opened = rw (none-missing s (count s f) (count-on-wheel s f)) refl
 
@@ -49,7 +49,7 @@ module _ (s : Settings) (store f : List ℕ) where
   unfolding stands-for enter step-of reason-of lost-since
   enters-as-opened = rw (none-missing s (count s f) (count-on-wheel s f)) refl
 
-  well-opened : try-frame s 0 (stands-for store (ready s (count s f))) store f ≡ try-frame s 0 opened store f
+  pub well-opened : try-frame s 0 (stands-for store (ready s (count s f))) store f ≡ try-frame s 0 opened store f
   unfolding try-frame faulty-entry
   well-opened = rw (says-as-opened, enters-as-opened) refl
 

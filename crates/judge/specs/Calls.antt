@@ -120,16 +120,18 @@ judge-close Open = pass
 judge-close (Sound tally last held) = pick (eqb held 0) pass (fault tally)
 judge-close (Faulty tally at) = fault at
 
--- what closing answers: a refusal, or 0 with whether the run passes and where its fault stands; 0 where there is none
+-- what closing answers: whether it is accepted; its refusal, or 0; whether the run passes, and where its fault stands, 0 where
+-- there is none
 pub record CloseSaid : Type 0 where
+  pub accepted : Bool
   pub refusal : ℕ
   pub passes : Bool
   pub at : ℕ
 
 unfoldable pub close-says : Closed → CloseSaid
-close-says (Refused n) = record { refusal = n; passes = false; at = 0 }
-close-says Pass = record { refusal = 0; passes = true; at = 0 }
-close-says (Fault k) = record { refusal = 0; passes = false; at = k }
+close-says (Refused n) = record { accepted = false; refusal = n; passes = false; at = 0 }
+close-says Pass = record { accepted = true; refusal = 0; passes = true; at = 0 }
+close-says (Fault k) = record { accepted = true; refusal = 0; passes = false; at = k }
 
 -- a verdict as an answer
 unfoldable pub closes-with : Verdict → Closed

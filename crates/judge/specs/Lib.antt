@@ -1,3 +1,5 @@
 pub mod Judge
 pub mod Calls
 pub mod Trials
+pub mod Reach
+pub mod Statements

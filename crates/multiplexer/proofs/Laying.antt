@@ -58,12 +58,12 @@ module _ {s : Settings} {m : Mux} {start n : ℕ} {d : List ℕ} (taken : ℕ) w
 
 -- ---- what each call lays
 
-part-run : (p : List ℕ) (from n : ℕ) → part from (from + n) p ≡ take n (drop from p)
+pub part-run : (p : List ℕ) (from n : ℕ) → part from (from + n) p ≡ take n (drop from p)
 unfolding part
 part-run p from n = ap (λ (k : ℕ). take k (drop from p)) (add-sub-cancel-left from n)
 
 -- the next octets of a packet are as many as are put
-length-next : (p : List ℕ) (taken n : ℕ) → taken + n ≤ length p → length (part taken (taken + n) p) ≡ n
+pub length-next : (p : List ℕ) (taken n : ℕ) → taken + n ≤ length p → length (part taken (taken + n) p) ≡ n
 length-next p taken n h = ap length (part-run p taken n) ∙ length-run p taken n h
 
 -- a packet of which nothing is taken is put whole where it fits

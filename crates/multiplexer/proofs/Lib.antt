@@ -3,3 +3,8 @@ pub mod Rows
 pub mod Laying
 pub mod Answers
 pub mod Passes
+pub mod Unrefused
+pub mod Filling
+pub mod Putting
+pub mod Lengths
+pub mod Reached

@@ -2,3 +2,4 @@ pub mod Multiplex
 pub mod Calls
 pub mod Laying
 pub mod Passes
+pub mod Reach

@@ -1,0 +1,92 @@
+-- A frame that bears the channel's header is one that no row refuses, and counts that rise by one leave none missing.
+-- Assumes nothing.
+use mathlib.Core.Path.{_≡_, refl}
+use mathlib.Core.Logic.{_↔_, Iff·rfl, Iff·and}
+use mathlib.Core.List.{List, [], _∷_}
+use mathlib.Core.Option.{Option, none, some}
+use Prim.Native.Nat.{ℕ, _^_, _≤_, _<_}
+use native.Mathlib.Omega.{arith}
+use lib.ListN.{length}
+use borrow.Author.Tests.{eq-eqb}
+use Rattle.octets.specs.Basics.{first}
+use Rattle.octets.proofs.Fields.{field-lt}
+use Rattle.frames.specs.Link.{primary, header-rows, count-width, next-count, missing}
+use Rattle.frames.specs.Frame.{frame-length, version, spacecraft, channel, count, spare, zone-spare, pointer, frame-rows}
+use Rattle.frames.specs.declared.Settings.{Settings}
+use Rattle.frames.proofs.Framed.{Used}
+use Rattle.frames.proofs.Rows.{sound-frame}
+use Rattle.frames.proofs.Settled.{Settled}
+use Rattle.extractor.specs.Extract.{lost-since}
+use Rattle.demands.specs.Carries.{Bears, Rising}
+
+-- ---- the header
+
+pub rows-bear : (s : Settings) (f : List ℕ) → first (frame-rows s f) ≡ 0 → Bears s f
+unfolding Bears
+rows-bear s f e =
+    let r = sound-frame s f e in
+    let h = r .header in
+    (r .length-right, h .version-right, h .spacecraft-right, h .channel-right, h .spare-clear, h .zone-spare-clear)
+
+-- and back, where the pointer is one that is used
+pub bears-rows : (s : Settings) (f : List ℕ) → Bears s f → Used s (pointer s f) → first (frame-rows s f) ≡ 0
+unfolding frame-rows header-rows first Bears
+bears-rows s f (e₁, e₂, e₃, e₄, e₅, e₆) used =
+    rw (
+      eq-eqb (length f) (frame-length s) e₁,
+      eq-eqb (version s f) 1 e₂,
+      eq-eqb (spacecraft s f) (s .link .spacecraft) e₃,
+      eq-eqb (channel s f) (s .link .channel) e₄,
+      eq-eqb (spare s f) 0 e₅,
+      eq-eqb (zone-spare s f) 0 e₆,
+      used,
+    )
+
+pub bears-length : (s : Settings) (f : List ℕ) → Bears s f → length f ≡ frame-length s
+unfolding Bears
+bears-length s f b = b .0
+
+-- ---- counts
+
+-- a count that may be known, and if so is one of the wheel's
+abbrev pub Counted : Settings → Option ℕ → Type 0
+Counted s none = Unit {0}
+Counted s (some c) = c < 2 ^ count-width (s .link)
+
+pub count-fits : (s : Settings) (f : List ℕ) → Counted s (some (count s f))
+unfolding count-width
+count-fits s f = field-lt (primary (s .link) f) 8 24
+
+-- the frame's count is the next one
+abbrev pub Next : Settings → Option ℕ → List ℕ → Type 0
+Next s none f = Unit {0}
+Next s (some c) f = count s f ≡ next-count (count-width (s .link)) c
+
+-- the counts of the frames go on from `last`: `Rising`, with what stood before the first frame
+abbrev pub Follows : Settings → Option ℕ → List (List ℕ) → Type 0
+Follows s last [] = Unit {0}
+Follows s last (f ∷ fs) = Next s last f × Follows s (some (count s f)) fs
+
+rising-after : (s : Settings) (f : List ℕ) (fs : List (List ℕ)) → Rising s (f ∷ fs) ↔ Follows s (some (count s f)) fs
+unfolding Rising
+rising-after s f [] = Iff·rfl
+rising-after s f (g ∷ fs) = Iff·and Iff·rfl (rising-after s g fs)
+
+pub rising-follows : (s : Settings) (fs : List (List ℕ)) → Rising s fs ↔ Follows s none fs
+unfolding Rising
+rising-follows s [] = Iff·rfl
+rising-follows s (f ∷ fs) = (λ r. (tt, rising-after s f fs .0 r), λ r. rising-after s f fs .1 (r .1))
+
+-- nothing is missing where the count is the next one, and nowhere else
+pub lost-next : (s : Settings) (last : Option ℕ) (f : List ℕ) → Counted s last → (lost-since s last (count s f) ≡ 0) ↔ Next s last f
+unfolding lost-since missing next-count count-width
+lost-next s none f h = (λ e. tt, λ e. refl)
+lost-next s (some c) f h =
+    let k : count s f < 2 ^ 24 = field-lt (primary (s .link) f) 8 24 in
+    (λ e. omega arith, λ e. omega arith)
+
+-- ---- settings
+
+-- a limit that is in range is some octet's
+pub some-limit : {s : Settings} → Settled s → 1 ≤ s .limit
+some-limit g = omega (arith, g .limit-least)

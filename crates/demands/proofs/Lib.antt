@@ -1,0 +1,15 @@
+pub mod Bearing
+pub mod CarefulPuts
+pub mod CarefulRuns
+pub mod Carrying
+pub mod Demand1
+pub mod Demand3
+pub mod Finding
+pub mod FirstStarts
+pub mod FrameRuns
+pub mod Joins
+pub mod Judging
+pub mod Laid
+pub mod Passed
+pub mod Promised
+pub mod RoundTrips

@@ -1,0 +1,54 @@
+-- Document 01's starred sample passes, 1 to 9 and 13, as one statement over the rules together.
+use Prim.Native.Nat.{ℕ}
+use mathlib.Core.Path.{_≡_}
+use mathlib.Core.List.{List, [], _∷_}
+use mathlib.Core.Bool.{Bool, true, false}
+use Rattle.packets.specs.Header.{Reading, reading}
+use Rattle.packets.specs.Passes as packets
+use Rattle.frames.specs.Passes as frames
+use Rattle.multiplexer.specs.Passes as multiplexer
+use Rattle.extractor.specs.Passes.{sample, first-frame, second-frame, Pass, passes, SamplePasses}
+use Rattle.judge.specs.Judge.{Verdict, pass, fault, verdict}
+use Rattle.bitstream.proofs.Samples as bitstream
+
+-- what is shown of a packet: its APID or protocol, whether it is idle, and its length
+pub record Shown : Type 0 where
+  pub key : ℕ
+  pub idle : Bool
+  pub length : ℕ
+
+abbrev pub shows : List ℕ → Shown
+shows p =
+    let r : Reading = reading (sample .limit) p in
+    record { key = r .key; idle = r .idle; length = r .total }
+
+-- the two frames of the sample run octet by octet, and its three packets: `space 5 8`, `encap 2 5`, `idle 7`
+pub record Pass1 : Type 0 where
+  pub first-octets : first-frame
+      ≡ 0x50 ∷ 0x83 ∷ 0x00 ∷ 0x00 ∷ 0x00 ∷ 0x00 ∷ 0x00 ∷ 0x00
+      ∷ 0x00 ∷ 0x05 ∷ 0xC0 ∷ 0x00 ∷ 0x00 ∷ 0x01 ∷ 0xAA ∷ 0xBB ∷ 0xE9 ∷ 0x05 ∷ []
+  pub second-octets : second-frame 1 3
+      ≡ 0x50 ∷ 0x83 ∷ 0x00 ∷ 0x00 ∷ 0x01 ∷ 0x00 ∷ 0x00 ∷ 0x03
+      ∷ 0x11 ∷ 0x22 ∷ 0x33 ∷ 0xE1 ∷ 0x07 ∷ 0x55 ∷ 0x55 ∷ 0x55 ∷ 0x55 ∷ 0x55 ∷ []
+  pub space-5-8 : shows (0x00 ∷ 0x05 ∷ 0xC0 ∷ 0x00 ∷ 0x00 ∷ 0x01 ∷ 0xAA ∷ 0xBB ∷ []) ≡ record { key = 5; idle = false; length = 8 }
+  pub encap-2-5 : shows (0xE9 ∷ 0x05 ∷ 0x11 ∷ 0x22 ∷ 0x33 ∷ []) ≡ record { key = 2; idle = false; length = 5 }
+  pub idle-7 : shows (0xE1 ∷ 0x07 ∷ 0x55 ∷ 0x55 ∷ 0x55 ∷ 0x55 ∷ 0x55 ∷ []) ≡ record { key = 0; idle = true; length = 7 }
+
+-- what the judge says of each of some runs
+abbrev pub verdicts : List Pass → List Verdict
+verdicts [] = []
+verdicts (p ∷ ps) = verdict sample (p .frames) ∷ verdicts ps
+
+-- THE TABLE. The extractor's lines and the judge's verdicts are over one list of runs: the run of pass 1; 2 its second frame alone;
+-- 3 count 2; 4 pointer 2; 5 pointer 9, pointer 10, and both alone; 6 pointer 2,047; 7 the wheel with idle zones and with packets.
+pub record Table : Type 0 where
+  pub pass-1 : Pass1
+  pub passes-1-to-7 : SamplePasses
+  pub judged-1-to-7 : verdicts passes
+      ≡ pass ∷ fault 0 ∷ fault 1 ∷ fault 1 ∷ fault 1 ∷ fault 1 ∷ fault 0 ∷ fault 0 ∷ fault 1 ∷ fault 2 ∷ fault 0 ∷ []
+  pub pass-5-pointers : frames.Pass5
+  pub pass-8 : packets.Pass8
+  pub pass-9-packets : packets.Pass9
+  pub pass-9-flushes : multiplexer.Pass9
+  pub pass-13-pointers : frames.Pass13
+  pub pass-13 : bitstream.Pass13

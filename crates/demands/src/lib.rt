@@ -1,0 +1,1 @@
+// The demands: no code. Their statements are in specs/, their proofs in proofs/.
