@@ -9,11 +9,11 @@ use borrow.Author.Tests.{eqb-true}
 use Rattle.octets.specs.Basics.{first}
 use Rattle.octets.proofs.Tests.{test}
 use Rattle.frames.specs.declared.Settings.{Settings}
-use Rattle.judge.specs.Calls.{tally-of, frame-refusals, judge-frame, frame-call}
+use Rattle.judge.specs.Calls.{frame-refusals, judge-frame, frame-call}
 use Rattle.judge.specs.Statements.{KeepsToTheTest, ComesToTheVerdict}
 use Rattle.judge.specs.declared.Judge.{Judge}
 use Rattle.judge.proofs.Accepting.{accepts}
-use Rattle.judge.proofs.Advances.{verdict-from, Advances, judge-advances}
+use Rattle.judge.proofs.Advances.{judge-advances}
 use Rattle.judge.proofs.Runs.{frame-answered, run-is-verdict}
 
 module _ (s : Settings) (store : List ℕ) (j : Judge) (f : List ℕ) where

@@ -1,0 +1,5 @@
+mod Wraps
+mod Muxes
+mod Extractors
+mod Judges
+mod Bitstreams

@@ -1,0 +1,36 @@
+-- What the multiplexer's calls leave, from what the library answers.
+-- Assumes nothing.
+use mathlib.Core.Path.{_≡_, refl, sym, ap, _∙_}
+use mathlib.Core.List.{List}
+use mathlib.Core.Bool.{true, false}
+use Prim.Native.Nat.{ℕ}
+use lib.ListN.{length}
+use Rattle.multiplexer.specs.Calls.{Call, Answer, answers, answer}
+use Rattle.multiplexer.specs.declared.Reply.{Reply}
+use Rattle.exports.specs.Left.{left, told, kept}
+use Rattle.exports.specs.Channel.{short, settings-of}
+use Rattle.exports.specs.Mux.{mux-of, mux-numbers, mux-leaves}
+
+-- a reply says which frame it goes with
+frame-same : (r : Reply) (frame : List ℕ) → answers r frame .frame ≡ frame
+unfolding answers
+frame-same (Reply.Refused n m) frame = refl
+frame-same (Reply.Done full taken m) frame = refl
+
+module _ (call : Call) (room : ℕ) (said : Answer → List ℕ) (settings numbers frame array : List ℕ) where
+  pub mux-short : short (length settings) (length numbers) (length array) room ≡ true
+      → left 2 numbers frame array ≡ mux-leaves call room said settings numbers frame array
+  unfolding mux-leaves
+  mux-short t = rw t refl
+
+  pub mux-done : (r : Reply) (frame′ : List ℕ) → short (length settings) (length numbers) (length array) room ≡ false
+      → answers r frame′ ≡ answer (settings-of settings) (mux-of numbers) call frame
+      → (let a : Answer = answers r frame′ in
+      left (a .refusal) (kept (a .refusal) numbers (mux-numbers (a .mux))) frame′ (told array (said a))
+      ≡ mux-leaves call room said settings numbers frame array)
+  unfolding mux-leaves
+  mux-done r frame′ t e =
+      rw (t, ← e)
+      (let a : Answer = answers r frame′ in
+      ap (λ (os : List ℕ). left (a .refusal) (kept (a .refusal) numbers (mux-numbers (a .mux))) os (told array (said a)))
+      (sym (frame-same r frame′)))

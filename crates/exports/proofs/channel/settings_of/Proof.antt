@@ -1,0 +1,22 @@
+-- `exports::channel::settings_of` meets its contract, number by number.
+-- Assumes nothing.
+use Rattle.exports.specs.Channel.{settings-of}
+use borrow.Author.Needs.{needs}
+use Rattle.exports.proofs.channel.settings_of.Statement.{statement}
+use Rattle.exports.proofs.channel.settings_of.Tie as tie
+
+returns : tie.Need-returns
+unfolding settings-of
+returns c = cc
+
+pub settings-of-spec : {M : Type 1} → statement M
+settings-of-spec =
+    tie.close
+    (tie.spec
+    (λ c κs. search needs)
+    (λ c κs. search needs)
+    (λ c κs. search needs)
+    (λ c κs. search needs)
+    (λ c κs. search needs)
+    (λ c κs. search needs)
+    returns)

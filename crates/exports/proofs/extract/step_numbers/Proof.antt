@@ -1,0 +1,54 @@
+-- `exports::extract::step_numbers` meets its contract, answer by answer.
+-- Assumes nothing.
+use mathlib.Core.Path.{_≡_, refl}
+use mathlib.Core.List.{List, _∷_}
+use mathlib.Core.Bool.{Bool, true, false}
+use Prim.Native.Nat.{ℕ}
+use lib.Dec.{eqb}
+use Rattle.octets.specs.Basics.{pick}
+use Rattle.extractor.specs.Answers.{packet-or-idle, found-numbers}
+use Rattle.exports.specs.Extract.{step-numbers}
+use borrow.Author.Needs.{needs}
+use Rattle.exports.proofs.extract.step_numbers.Statement.{statement}
+use Rattle.exports.proofs.extract.step_numbers.Tie as tie
+
+not-spent : (idle : Bool) (rest : List ℕ) → packet-or-idle idle ∷ rest ≡ pick (eqb (packet-or-idle idle) 4) 0 (packet-or-idle idle) ∷ rest
+not-spent true rest = refl
+not-spent false rest = refl
+
+returns : tie.Need-returns
+unfolding step-numbers found-numbers
+returns c = λ frame store. rw (c .enum-told .given .1) refl
+
+returns-2 : tie.Need-returns-2
+unfolding step-numbers found-numbers
+returns-2 c = λ frame store. rw (c .before .before .found .given .1, c .packet-number .ensures) (not-spent (c .before .before .found .given .0 .1 .1 .0) _)
+
+returns-3 : tie.Need-returns-3
+unfolding step-numbers found-numbers
+returns-3 c = λ frame store. rw (c .before .before .found2 .given .1, c .packet-number2 .ensures) (not-spent (c .before .before .found2 .given .0 .1 .0) _)
+
+returns-4 : tie.Need-returns-4
+unfolding step-numbers found-numbers
+returns-4 c = λ frame store. rw (c .enum-told2 .given .1) refl
+
+returns-5 : tie.Need-returns-5
+unfolding step-numbers found-numbers
+returns-5 c = λ frame store. rw (c .enum-told3 .given .1) refl
+
+pub step-numbers-spec : {M : Type 1} → statement M
+step-numbers-spec =
+    tie.close
+    (tie.spec
+    (λ c. search needs)
+    (λ c. search needs)
+    (λ c κs. search needs)
+    (λ c. search needs)
+    (λ c κs. search needs)
+    (λ c. search needs)
+    (λ c. search needs)
+    returns
+    returns-2
+    returns-3
+    returns-4
+    returns-5)

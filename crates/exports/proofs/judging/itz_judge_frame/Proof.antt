@@ -1,0 +1,46 @@
+-- `exports::judging::itz_judge_frame` meets its contract: the arrays' lengths are tested first; then the numbers are those of the library's answer.
+-- Assumes nothing.
+use mathlib.Core.Path.{sym, _∙_}
+use Rattle.exports.proofs.Judges.{judge-short, judge-done}
+use borrow.Author.Needs.{needs}
+use Rattle.exports.proofs.judging.itz_judge_frame.Statement.{statement}
+use Rattle.exports.proofs.judging.itz_judge_frame.Tie as tie
+
+returns : tie.Need-returns
+returns c =
+    let a = c .before .before .before .before .before .before .args in
+    judge-short (a .settings .now) (a .«record» .now) (a .store .now) (a .frame .now)
+    (sym (c .before .is-short .ensures) ∙ c .if1 .taken)
+
+returns-2 : tie.Need-returns-2
+returns-2 c =
+    let at-keep = c .before .before in
+    let at-numbers = at-keep .before .before .before in
+    let at-frame = at-numbers .before .before .before .before in
+    let at-record = at-frame .before .before in
+    let at-settings = at-record .before .before in
+    let at-if1 = at-settings .before in
+    let at-short = at-if1 .before in
+    let a = at-short .before .before .before .before .before .args in
+    let store = at-frame .frame .last .1 .1 .0 in
+    rw (at-keep .keep .ensures, at-numbers .judge-numbers .ensures)
+    (judge-done (a .settings .now) (a .«record» .now) (a .store .now) (a .frame .now) (at-frame .frame .result) store
+    (sym (at-short .is-short .ensures) ∙ at-if1 .if1 .left)
+    (rw (at-settings .settings-of .ensures, at-record .judge-of .ensures) at (at-frame .frame .ensures)))
+
+pub itz-judge-frame-spec : {M : Type 1} → statement M
+itz-judge-frame-spec =
+    tie.close
+    (tie.spec
+    (λ c κs. search needs)
+    returns
+    (λ c κs. search needs)
+    (λ c κs. search needs)
+    (λ c κs. search needs)
+    (λ c. search needs)
+    (λ c κs. search needs)
+    (λ c. search needs)
+    (λ c κs. search needs)
+    (λ c. search needs)
+    (λ c. search needs)
+    returns-2)

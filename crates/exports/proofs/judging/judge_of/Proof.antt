@@ -1,0 +1,21 @@
+-- `exports::judging::judge_of` meets its contract, number by number.
+-- Assumes nothing.
+use borrow.Author.Needs.{needs}
+use Rattle.exports.proofs.judging.judge_of.Statement.{statement}
+use Rattle.exports.proofs.judging.judge_of.Tie as tie
+
+returns : tie.Need-returns
+returns c = cc
+
+pub judge-of-spec : {M : Type 1} → statement M
+judge-of-spec =
+    tie.close
+    (tie.spec
+    (λ c κs. search needs)
+    (λ c κs. search needs)
+    (λ c κs. search needs)
+    (λ c κs. search needs)
+    (λ c κs. search needs)
+    (λ c κs. search needs)
+    (λ c κs. search needs)
+    returns)

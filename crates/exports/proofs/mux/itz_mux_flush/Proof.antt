@@ -1,0 +1,55 @@
+-- `exports::mux::itz_mux_flush` meets its contract: the arrays' lengths are tested first; then the numbers are those of the library's answer.
+-- Assumes nothing.
+use mathlib.Core.Path.{sym, _∙_}
+use Rattle.multiplexer.specs.Calls.{to-flush}
+use Rattle.exports.specs.Mux.{flush-numbers}
+use Rattle.exports.proofs.Muxes.{mux-short, mux-done}
+use borrow.Author.Needs.{needs}
+use Rattle.exports.proofs.mux.itz_mux_flush.Statement.{statement}
+use Rattle.exports.proofs.mux.itz_mux_flush.Tie as tie
+
+returns : tie.Need-returns
+returns c =
+    let a = c .before .before .before .before .before .before .args in
+    mux-short to-flush 1 flush-numbers (a .settings .now) (a .«record» .now) (a .frame .now) (a .answer .now)
+    (sym (c .before .is-short .ensures) ∙ c .if1 .taken)
+
+returns-2 : tie.Need-returns-2
+returns-2 c =
+    let at-put = c .before .before in
+    let at-keep = at-put .before .before .before .before .before in
+    let at-numbers = at-keep .before .before .before in
+    let at-next = at-numbers .before in
+    let at-refusal = at-next .before in
+    let at-call = at-refusal .before .before .before in
+    let at-record = at-call .before .before in
+    let at-settings = at-record .before .before in
+    let at-if1 = at-settings .before in
+    let at-short = at-if1 .before in
+    let a = at-short .before .before .before .before .before .args in
+    let frame = at-call .flush .last .1 .1 .0 in
+    rw (at-put .put .ensures, at-keep .keep .ensures, at-numbers .flush-numbers .ensures frame, at-next .next-mux .ensures frame, at-refusal .reply-refusal .ensures frame)
+    (mux-done to-flush 1 flush-numbers (a .settings .now) (a .«record» .now) (a .frame .now) (a .answer .now) (at-call .flush .result) frame
+    (sym (at-short .is-short .ensures) ∙ at-if1 .if1 .left)
+    (rw (at-settings .settings-of .ensures, at-record .mux-of .ensures) at (at-call .flush .ensures)))
+
+pub itz-mux-flush-spec : {M : Type 1} → statement M
+itz-mux-flush-spec =
+    tie.close
+    (tie.spec
+    (λ c κs. search needs)
+    returns
+    (λ c κs. search needs)
+    (λ c κs. search needs)
+    (λ c κs. search needs)
+    (λ c κs. search needs)
+    (λ c κs. search needs)
+    (λ c κs. search needs)
+    (λ c. search needs)
+    (λ c κs. search needs)
+    (λ c. search needs)
+    (λ c κs. search needs)
+    (λ c. search needs)
+    (λ c. search needs)
+    (λ c. search needs)
+    returns-2)

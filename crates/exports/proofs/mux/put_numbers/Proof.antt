@@ -1,0 +1,20 @@
+-- `exports::mux::put_numbers` meets its contract, answer by answer.
+-- Assumes nothing.
+use mathlib.Core.Path.{refl}
+use Rattle.multiplexer.specs.Calls.{answers}
+use Rattle.exports.specs.Mux.{put-numbers}
+use borrow.Author.Needs.{needs}
+use Rattle.exports.proofs.mux.put_numbers.Statement.{statement}
+use Rattle.exports.proofs.mux.put_numbers.Tie as tie
+
+returns : tie.Need-returns
+unfolding put-numbers answers
+returns c = λ frame. rw (c .enum-told .given .1) refl
+
+returns-2 : tie.Need-returns-2
+unfolding put-numbers answers
+returns-2 c = λ frame. rw (c .before .before .before .reply .given .1, c .before .flag .ensures, c .flag2 .ensures) refl
+
+pub put-numbers-spec : {M : Type 1} → statement M
+put-numbers-spec =
+    tie.close (tie.spec (λ c. search needs) (λ c. search needs) (λ c κs. search needs) (λ c κs. search needs) returns returns-2)

@@ -1,0 +1,42 @@
+-- `exports::packet::itz_wrap` meets its contract: the array's length is tested first; the numbers are the answer's, and cutting
+-- protocol and extension to octets changes nothing.
+-- Assumes nothing.
+use mathlib.Core.Path.{refl}
+use borrow.Author.Tests.{lt-ltb}
+use Rattle.exports.specs.Packet.{wrap-leaves}
+use Rattle.exports.proofs.Wraps.{wrap-done}
+use borrow.Author.Needs.{needs}
+use Rattle.exports.proofs.packet.itz_wrap.Statement.{statement}
+use Rattle.exports.proofs.packet.itz_wrap.Tie as tie
+
+returns : tie.Need-returns
+unfolding wrap-leaves
+returns c = rw (lt-ltb _ _ (c .if1 .taken)) refl
+
+returns-2 : tie.Need-returns-2
+returns-2 c =
+    let at-put = c .before .before .before in
+    let at-numbers = at-put .before .before .before in
+    let at-wrap = at-numbers .before .before .before in
+    let at-if1 = at-wrap .before .before .before .before in
+    let a = at-if1 .before .before .before .before .args in
+    let out = at-wrap .wrap .last .1 .1 .1 .1 .0 in
+    rw (c .wrapped-refusal .ensures out, at-put .put .ensures, at-numbers .wrapped-numbers .ensures out)
+    (wrap-done (a .limit) (a .protocol) (a .extension) (a .«data» .now) (a .packet .now) (a .answer .now) _ out (at-if1 .if1 .left)
+    (rw (at-wrap .before .before .before .octet-of .ensures, at-wrap .before .before .octet-of2 .ensures) at (at-wrap .wrap .ensures)))
+
+pub itz-wrap-spec : {M : Type 1} → statement M
+itz-wrap-spec =
+    tie.close
+    (tie.spec
+    returns
+    (λ c κs. search needs)
+    (λ c κs. search needs)
+    (λ c κs. search needs)
+    (λ c κs. search needs)
+    (λ c. search needs)
+    (λ c κs. search needs)
+    (λ c κs. search needs)
+    (λ c. search needs)
+    (λ c. search needs)
+    returns-2)

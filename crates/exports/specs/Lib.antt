@@ -1,0 +1,7 @@
+pub mod Left
+pub mod Packet
+pub mod Channel
+pub mod Mux
+pub mod Extract
+pub mod Judging
+pub mod Bits

@@ -1,0 +1,48 @@
+-- Packet headers, wrapping and unwrapping, in the numbers of the C interface. An answer's array that is short is refused first.
+use Prim.Native.Nat.{ℕ, _-_}
+use mathlib.Core.List.{List, [], _∷_}
+use lib.ListN.{length}
+use lib.Dec.{ltb, eqb}
+use Rattle.octets.specs.Basics.{pick}
+use Rattle.packets.specs.Header.{Reading, reading}
+use Rattle.packets.specs.Wrap.{Wrapping, wrapping, Unwrapping, unwrapping}
+use Rattle.exports.specs.Left.{Left, left, told, bit}
+
+-- 1 a space packet, 2 an encapsulation packet, by the version
+unfoldable pub kind-number : ℕ → ℕ
+kind-number version = pick (eqb version 0) 1 2
+
+-- what was found: 0 more octets are needed, 1 damaged, 2 a header; of a header its kind, whether it is idle, its APID or
+-- protocol, its length and the packet's
+unfoldable pub header-numbers : Reading → List ℕ
+header-numbers r =
+    (r .outcome - 1)
+    ∷ pick (eqb (r .outcome) 3) (kind-number (r .version)) 0
+    ∷ bit (r .idle)
+    ∷ r .key
+    ∷ r .size
+    ∷ r .total
+    ∷ []
+
+unfoldable pub header-leaves : ℕ → List ℕ → List ℕ → Left
+header-leaves limit octets answer =
+    let r : Reading = reading limit octets in
+    pick (ltb (length answer) 6) (left 2 [] [] answer) (left (r .refusal) [] [] (told answer (header-numbers r)))
+
+-- the packet's length
+unfoldable pub wrap-numbers : Wrapping → List ℕ
+wrap-numbers w = w .total ∷ []
+
+unfoldable pub wrap-leaves : ℕ → ℕ → ℕ → List ℕ → List ℕ → List ℕ → Left
+wrap-leaves limit protocol extension unit packet answer =
+    let w : Wrapping = wrapping limit protocol extension unit packet in
+    pick (ltb (length answer) 1) (left 2 [] packet answer) (left (w .refusal) [] (w .output) (told answer (wrap-numbers w)))
+
+-- the protocol, the extension, where the data unit starts and how long it is
+unfoldable pub unwrap-numbers : Unwrapping → List ℕ
+unwrap-numbers u = u .protocol ∷ u .extension ∷ u .start ∷ u .size ∷ []
+
+unfoldable pub unwrap-leaves : ℕ → List ℕ → List ℕ → Left
+unwrap-leaves limit packet answer =
+    let u : Unwrapping = unwrapping limit packet in
+    pick (ltb (length answer) 4) (left 2 [] [] answer) (left (u .refusal) [] [] (told answer (unwrap-numbers u)))

@@ -1,0 +1,182 @@
+// The extractor.
+ghost use mathlib.Core.Path.{_≡_};
+ghost use Prim.Native.Nat.{ℕ};
+ghost use mathlib.Core.List.{List, []};
+ghost use Rattle.extractor.specs.Answers.{entered-numbers, packet-or-idle, found-numbers};
+ghost use Rattle.exports.specs.Left.{left};
+ghost use Rattle.exports.specs.Extract.{unreached, extractor-with, extractor-of, extractor-numbers, enter-numbers, enter-leaves, step-numbers, step-leaves};
+use crate::arrays::count_of;
+use crate::arrays::entry;
+use crate::arrays::keep;
+use crate::arrays::put;
+use crate::channel::is_short;
+use crate::channel::settings_of;
+use extractor::Entered;
+use extractor::Extractor;
+use extractor::Found;
+
+// A record that no call reaches.
+fn unreached() -> Extractor
+    ensures { λ r. ⌜ r ≡ unreached ⌝ }
+{
+    Extractor::Astray { last: 4294967295 }
+}
+
+// The record of a kind with these numbers, from the kind that uses all of them to the one that uses none; those not used are 0.
+fn extractor_with(kind: u64, last: u32, held: usize, at: usize) -> Extractor
+    ensures { λ r. ⌜ r ≡ extractor-with kind last held at ⌝ }
+{
+    if kind == 3 {
+        return Extractor::Walking { last, held, at };
+    }
+    if at != 0 {
+        return unreached();
+    }
+    if kind == 2 {
+        return Extractor::InStep { last, held };
+    }
+    if held != 0 {
+        return unreached();
+    }
+    if kind == 1 {
+        return Extractor::Astray { last };
+    }
+    if kind == 4 {
+        return Extractor::Leaving { last };
+    }
+    if last != 0 {
+        return unreached();
+    }
+    if kind == 0 {
+        return Extractor::Fresh;
+    }
+    unreached()
+}
+
+fn extractor_of(numbers: &[u64]) -> Extractor
+    ensures { λ r. ⌜ r ≡ extractor-of (now (numbers .entry)) ⌝ }
+{
+    let last = count_of(entry(numbers, 1));
+    let held = entry(numbers, 2) as usize;
+    let at = entry(numbers, 3) as usize;
+    extractor_with(entry(numbers, 0), last, held, at)
+}
+
+fn extractor_numbers(x: Extractor) -> [u64; 4]
+    ensures { λ r. ⌜ r ≡ extractor-numbers x ⌝ }
+{
+    match x {
+        Extractor::Fresh => [0; 4],
+        Extractor::Astray { last } => [1, last as u64, 0, 0],
+        Extractor::InStep { last, held } => [2, last as u64, held as u64, 0],
+        Extractor::Walking { last, held, at } => [3, last as u64, held as u64, at as u64],
+        Extractor::Leaving { last } => [4, last as u64, 0, 0],
+    }
+}
+
+fn entered_refusal(entered: Entered) -> u64
+    ensures { λ r. ⌜ r ≡ entered-numbers entered .refusal ⌝ }
+{
+    match entered {
+        Entered::Refused { refusal } => refusal as u64,
+        Entered::Taken { entry: _ } => 0,
+    }
+}
+
+fn enter_numbers(entered: Entered) -> [u64; 5]
+    ensures { λ r. ⌜ r ≡ enter-numbers (entered-numbers entered) ⌝ }
+{
+    match entered {
+        Entered::Refused { refusal: _ } => [0; 5],
+        Entered::Taken { entry } => [
+            entry.count as u64,
+            entry.replay as u64,
+            entry.lost as u64,
+            entry.dropped as u64,
+            entry.reason as u64,
+        ],
+    }
+}
+
+#[no_mangle]
+pub extern "C" fn itz_extractor_enter(
+    settings: &[u64],
+    record: &mut [u64],
+    store: &[u8],
+    frame: &[u8],
+    answer: &mut [u64],
+) -> u64
+    ensures { λ r. ⌜ left r (now («record» .exit)) [] (now (answer .exit)) ≡ enter-leaves (now (settings .entry)) (now («record» .entry)) (now (store .entry)) (now (frame .entry)) (now (answer .entry)) ⌝ }
+{
+    if is_short(settings.len(), record.len(), answer.len(), 5) {
+        return 2;
+    }
+    let entering = extractor::enter(settings_of(settings), extractor_of(record), store, frame);
+    let entered = entering.entered;
+    let next = entering.next;
+    let refusal = entered_refusal(entered);
+    let state = extractor_numbers(next);
+    let numbers = enter_numbers(entered);
+    keep(record, refusal, &state);
+    put(answer, &numbers);
+    refusal
+}
+
+fn found_refusal(found: Found) -> u64
+    ensures { λ r. ⌜ ((frame store : List ℕ) → r ≡ found-numbers frame store found .refusal) ⌝ }
+{
+    match found {
+        Found::Refused { refusal } => refusal as u64,
+        Found::InFrame {
+            start: _,
+            size: _,
+            idle: _,
+        } => 0,
+        Found::InStore { size: _, idle: _ } => 0,
+        Found::Damaged => 0,
+        Found::Spent => 0,
+    }
+}
+
+// What a packet is: 1, and 2 where it is idle.
+fn packet_number(idle: bool) -> u64
+    ensures { λ r. ⌜ r ≡ packet-or-idle idle ⌝ }
+{
+    if idle { 2 } else { 1 }
+}
+
+fn step_numbers(found: Found) -> [u64; 4]
+    ensures { λ r. ⌜ ((frame store : List ℕ) → r ≡ step-numbers (found-numbers frame store found)) ⌝ }
+{
+    match found {
+        Found::Refused { refusal: _ } => [0; 4],
+        Found::InFrame { start, size, idle } => [packet_number(idle), 1, start as u64, size as u64],
+        Found::InStore { size, idle } => [packet_number(idle), 2, 0, size as u64],
+        Found::Damaged => [3, 0, 0, 0],
+        Found::Spent => [0; 4],
+    }
+}
+
+#[no_mangle]
+pub extern "C" fn itz_extractor_step(
+    settings: &[u64],
+    record: &mut [u64],
+    store: &mut [u8],
+    frame: &[u8],
+    answer: &mut [u64],
+) -> u64
+    ensures { λ r. ⌜ left r (now («record» .exit)) (now (store .exit)) (now (answer .exit)) ≡ step-leaves (now (settings .entry)) (now («record» .entry)) (now (store .entry)) (now (frame .entry)) (now (answer .entry)) ⌝ }
+{
+    if is_short(settings.len(), record.len(), answer.len(), 4) {
+        return 2;
+    }
+    let moved = extractor::step(settings_of(settings), extractor_of(record), store, frame);
+    let found = moved.found;
+    let next = moved.next;
+    let refusal = found_refusal(found);
+    let state = extractor_numbers(next);
+    let numbers = step_numbers(found);
+    keep(record, refusal, &state);
+    put(answer, &numbers);
+    refusal
+}

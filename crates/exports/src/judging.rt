@@ -1,0 +1,123 @@
+// The judge.
+ghost use mathlib.Core.Path.{_≡_};
+ghost use mathlib.Core.List.{[]};
+ghost use Rattle.judge.specs.Calls.{close-says};
+ghost use Rattle.exports.specs.Left.{left};
+ghost use Rattle.exports.specs.Judging.{unjudged, judge-with, judge-of, judge-numbers, judge-leaves, close-numbers, close-leaves};
+use crate::arrays::count_of;
+use crate::arrays::entry;
+use crate::arrays::keep;
+use crate::arrays::put;
+use crate::channel::is_short;
+use crate::channel::settings_of;
+use judge::Closed;
+use judge::Judge;
+
+// A record that no call reaches.
+fn unjudged() -> Judge
+    ensures { λ r. ⌜ r ≡ unjudged ⌝ }
+{
+    Judge::Faulty { tally: 0, at: 0 }
+}
+
+// The record of a kind with these numbers, from the kind that uses all of them to the one that uses none; those not used are 0.
+fn judge_with(kind: u64, tally: u32, last: u32, held: usize) -> Judge
+    ensures { λ r. ⌜ r ≡ judge-with kind tally last held ⌝ }
+{
+    if kind == 1 {
+        return Judge::Sound { tally, last, held };
+    }
+    if held != 0 {
+        return unjudged();
+    }
+    if kind == 2 {
+        return Judge::Faulty { tally, at: last };
+    }
+    if last != 0 {
+        return unjudged();
+    }
+    if tally != 0 {
+        return unjudged();
+    }
+    if kind == 0 {
+        return Judge::Open;
+    }
+    unjudged()
+}
+
+fn judge_of(numbers: &[u64]) -> Judge
+    ensures { λ r. ⌜ r ≡ judge-of (now (numbers .entry)) ⌝ }
+{
+    let tally = count_of(entry(numbers, 1));
+    let last = count_of(entry(numbers, 2));
+    let held = entry(numbers, 3) as usize;
+    judge_with(entry(numbers, 0), tally, last, held)
+}
+
+fn judge_numbers(j: Judge) -> [u64; 4]
+    ensures { λ r. ⌜ r ≡ judge-numbers j ⌝ }
+{
+    match j {
+        Judge::Open => [0; 4],
+        Judge::Sound { tally, last, held } => [1, tally as u64, last as u64, held as u64],
+        Judge::Faulty { tally, at } => [2, tally as u64, at as u64, 0],
+    }
+}
+
+#[no_mangle]
+pub extern "C" fn itz_judge_frame(
+    settings: &[u64],
+    record: &mut [u64],
+    store: &mut [u8],
+    frame: &[u8],
+) -> u64
+    ensures { λ r. ⌜ left r (now («record» .exit)) (now (store .exit)) [] ≡ judge-leaves (now (settings .entry)) (now («record» .entry)) (now (store .entry)) (now (frame .entry)) ⌝ }
+{
+    if is_short(settings.len(), record.len(), 0, 0) {
+        return 2;
+    }
+    let judged = judge::frame(settings_of(settings), judge_of(record), store, frame);
+    let next = judged.next;
+    let refusal = judged.refusal as u64;
+    let state = judge_numbers(next);
+    keep(record, refusal, &state);
+    refusal
+}
+
+fn closed_refusal(closed: Closed) -> u64
+    ensures { λ r. ⌜ r ≡ close-says closed .refusal ⌝ }
+{
+    match closed {
+        Closed::Refused { refusal } => refusal as u64,
+        Closed::Pass => 0,
+        Closed::Fault { at: _ } => 0,
+    }
+}
+
+fn close_numbers(closed: Closed) -> [u64; 2]
+    ensures { λ r. ⌜ r ≡ close-numbers (close-says closed) ⌝ }
+{
+    match closed {
+        Closed::Refused { refusal: _ } => [0; 2],
+        Closed::Pass => [0; 2],
+        Closed::Fault { at } => [1, at as u64],
+    }
+}
+
+#[no_mangle]
+pub extern "C" fn itz_judge_close(
+    settings: &[u64],
+    record: &[u64],
+    store: &[u8],
+    answer: &mut [u64],
+) -> u64
+    ensures { λ r. ⌜ left r [] [] (now (answer .exit)) ≡ close-leaves (now (settings .entry)) (now («record» .entry)) (now (store .entry)) (now (answer .entry)) ⌝ }
+{
+    if is_short(settings.len(), record.len(), answer.len(), 2) {
+        return 2;
+    }
+    let closed = judge::close(settings_of(settings), judge_of(record), store);
+    let numbers = close_numbers(closed);
+    put(answer, &numbers);
+    closed_refusal(closed)
+}

@@ -1,0 +1,148 @@
+// The multiplexer.
+ghost use mathlib.Core.Path.{_≡_};
+ghost use Prim.Native.Nat.{ℕ};
+ghost use mathlib.Core.List.{List, []};
+ghost use Rattle.multiplexer.specs.Calls.{to-put, to-flush, to-idle, answers};
+ghost use Rattle.exports.specs.Left.{left};
+ghost use Rattle.exports.specs.Mux.{mux-of, mux-numbers, put-numbers, flush-numbers, no-numbers, mux-leaves};
+use crate::arrays::count_of;
+use crate::arrays::entry;
+use crate::arrays::flag;
+use crate::arrays::keep;
+use crate::arrays::put;
+use crate::channel::is_short;
+use crate::channel::settings_of;
+use multiplexer::Mux;
+use multiplexer::Reply;
+
+fn mux_of(numbers: &[u64]) -> Mux
+    ensures { λ r. ⌜ r ≡ mux-of (now (numbers .entry)) ⌝ }
+{
+    Mux {
+        count: count_of(entry(numbers, 0)),
+        filled: entry(numbers, 1) as usize,
+        first: entry(numbers, 2) as usize,
+        taken: entry(numbers, 3) as usize,
+    }
+}
+
+fn mux_numbers(m: Mux) -> [u64; 4]
+    ensures { λ r. ⌜ r ≡ mux-numbers m ⌝ }
+{
+    [
+        m.count as u64,
+        m.filled as u64,
+        m.first as u64,
+        m.taken as u64,
+    ]
+}
+
+fn reply_refusal(reply: Reply) -> u64
+    ensures { λ r. ⌜ ((frame : List ℕ) → r ≡ answers reply frame .refusal) ⌝ }
+{
+    match reply {
+        Reply::Refused { refusal, mux: _ } => refusal as u64,
+        Reply::Done {
+            full: _,
+            taken: _,
+            mux: _,
+        } => 0,
+    }
+}
+
+// The record to go on with.
+fn next_mux(reply: Reply) -> [u64; 4]
+    ensures { λ r. ⌜ ((frame : List ℕ) → r ≡ mux-numbers (answers reply frame .mux)) ⌝ }
+{
+    match reply {
+        Reply::Refused { refusal: _, mux } => mux_numbers(mux),
+        Reply::Done {
+            full: _,
+            taken: _,
+            mux,
+        } => mux_numbers(mux),
+    }
+}
+
+fn put_numbers(reply: Reply) -> [u64; 2]
+    ensures { λ r. ⌜ ((frame : List ℕ) → r ≡ put-numbers (answers reply frame)) ⌝ }
+{
+    match reply {
+        Reply::Refused { refusal: _, mux: _ } => [0; 2],
+        Reply::Done {
+            full,
+            taken,
+            mux: _,
+        } => [flag(full), flag(taken)],
+    }
+}
+
+fn flush_numbers(reply: Reply) -> [u64; 1]
+    ensures { λ r. ⌜ ((frame : List ℕ) → r ≡ flush-numbers (answers reply frame)) ⌝ }
+{
+    match reply {
+        Reply::Refused { refusal: _, mux: _ } => [0],
+        Reply::Done {
+            full,
+            taken: _,
+            mux: _,
+        } => [flag(full)],
+    }
+}
+
+#[no_mangle]
+pub extern "C" fn itz_mux_put(
+    settings: &[u64],
+    record: &mut [u64],
+    packet: &[u8],
+    frame: &mut [u8],
+    answer: &mut [u64],
+) -> u64
+    ensures { λ r. ⌜ left r (now («record» .exit)) (now (frame .exit)) (now (answer .exit)) ≡ mux-leaves (to-put (now (packet .entry))) 2 put-numbers (now (settings .entry)) (now («record» .entry)) (now (frame .entry)) (now (answer .entry)) ⌝ }
+{
+    if is_short(settings.len(), record.len(), answer.len(), 2) {
+        return 2;
+    }
+    let reply = multiplexer::put(settings_of(settings), mux_of(record), packet, frame);
+    let refusal = reply_refusal(reply);
+    let state = next_mux(reply);
+    let numbers = put_numbers(reply);
+    keep(record, refusal, &state);
+    put(answer, &numbers);
+    refusal
+}
+
+#[no_mangle]
+pub extern "C" fn itz_mux_flush(
+    settings: &[u64],
+    record: &mut [u64],
+    frame: &mut [u8],
+    answer: &mut [u64],
+) -> u64
+    ensures { λ r. ⌜ left r (now («record» .exit)) (now (frame .exit)) (now (answer .exit)) ≡ mux-leaves to-flush 1 flush-numbers (now (settings .entry)) (now («record» .entry)) (now (frame .entry)) (now (answer .entry)) ⌝ }
+{
+    if is_short(settings.len(), record.len(), answer.len(), 1) {
+        return 2;
+    }
+    let reply = multiplexer::flush(settings_of(settings), mux_of(record), frame);
+    let refusal = reply_refusal(reply);
+    let state = next_mux(reply);
+    let numbers = flush_numbers(reply);
+    keep(record, refusal, &state);
+    put(answer, &numbers);
+    refusal
+}
+
+#[no_mangle]
+pub extern "C" fn itz_mux_idle(settings: &[u64], record: &mut [u64], frame: &mut [u8]) -> u64
+    ensures { λ r. ⌜ left r (now («record» .exit)) (now (frame .exit)) [] ≡ mux-leaves to-idle 0 no-numbers (now (settings .entry)) (now («record» .entry)) (now (frame .entry)) [] ⌝ }
+{
+    if is_short(settings.len(), record.len(), 0, 0) {
+        return 2;
+    }
+    let reply = multiplexer::idle_zone(settings_of(settings), mux_of(record), frame);
+    let refusal = reply_refusal(reply);
+    let state = next_mux(reply);
+    keep(record, refusal, &state);
+    refusal
+}
