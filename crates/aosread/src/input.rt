@@ -1,0 +1,106 @@
+// Standard input: the records of a run, out of a buffer that large reads fill.
+ghost use mathlib.Core.Path.{_≡_};
+ghost use Prim.Native.Nat.{_+_, _≤_};
+ghost use lib.ListN.{length, take, drop};
+ghost use Rattle.aosread.specs.Input.{Inside, unread as unread-in, StandFirst, Follows};
+use libc::STDIN_FILENO;
+use runfile::Reader;
+
+// The octets of the buffer that are read and not yet taken.
+pub(crate) struct Unread {
+    pub(crate) from: usize,
+    pub(crate) to: usize,
+}
+
+// A record, or that the input has ended.
+pub(crate) struct Record {
+    pub(crate) ended: bool,
+    pub(crate) kind: u8,
+    // Where its body lies in the buffer, as much of it as there is.
+    pub(crate) from: usize,
+    pub(crate) to: usize,
+    // What is left behind it.
+    pub(crate) unread: Unread,
+    // The run's reader after it.
+    pub(crate) reader: Reader,
+}
+
+// Moves n octets of the buffer, from `from` on, to its front.
+fn to_front(buf: &mut [u8], from: usize, n: usize)
+    requires { ⌜ from + n ≤ length (now buf) ⌝ }
+    ensures { λ _. ⌜ take n (now (buf .exit)) ≡ take n (drop from (now (buf .entry))) ⌝ }
+{
+    let mut i = 0;
+    while i < n {
+        buf[i] = buf[from + i];
+        i += 1;
+    }
+}
+
+// One read behind the buffer's first `to` octets: how many came, 0 where the input has ended or cannot be read.
+fn read_behind(buf: &mut [u8], to: usize) -> usize
+    requires { ⌜ to ≤ length (now buf) ⌝ }
+    ensures { λ r. ⌜ to + r ≤ length (now (buf .exit)) ⌝ }
+    ensures { λ _. ⌜ take to (now (buf .exit)) ≡ take to (now (buf .entry)) ⌝ }
+{
+    let rest = &mut buf[to..];
+    let got = libc::read(STDIN_FILENO, rest);
+    io::count(got, rest)
+}
+
+// Reads on until n octets are there or the input has ended.
+fn wait_for(buf: &mut [u8], unread: Unread, n: usize) -> Unread
+    requires { ⌜ Inside unread (now buf) ⌝ }
+    ensures { λ r. ⌜ Inside r (now (buf .exit)) ⌝ }
+    ensures { λ r. ⌜ StandFirst unread (now (buf .entry)) (unread-in r (now (buf .exit))) ⌝ }
+{
+    let from = unread.from;
+    let there = unread.to - from;
+    if n <= there {
+        return unread;
+    }
+    to_front(buf, from, there);
+    let mut to = there;
+    while to < n {
+        let got = read_behind(buf, to);
+        if got == 0 {
+            return Unread { from: 0, to };
+        }
+        to += got;
+    }
+    Unread { from: 0, to }
+}
+
+// The next record.
+pub(crate) fn next(buf: &mut [u8], unread: Unread, reader: Reader) -> Record
+    requires { ⌜ Inside unread (now buf) ⌝ }
+    ensures { λ r. ⌜ Follows reader r unread (now (buf .entry)) (now (buf .exit)) ⌝ }
+{
+    let start = wait_for(buf, unread, 1);
+    let at = start.from;
+    if start.to == at {
+        return Record {
+            ended: true,
+            kind: 0,
+            from: at,
+            to: at,
+            unread: start,
+            reader: runfile::close(reader),
+        };
+    }
+    let kind = buf[at];
+    let size = runfile::body_length(reader, kind);
+    let whole = wait_for(buf, start, 1 + size);
+    let from = whole.from + 1;
+    let end = whole.to;
+    let to = octets::least(from + size, end);
+    let reader = runfile::take(reader, kind, &buf[from..to]);
+    Record {
+        ended: false,
+        kind,
+        from,
+        to,
+        unread: Unread { from: to, to: end },
+        reader,
+    }
+}

@@ -1,0 +1,137 @@
+/*
+ * Two packets into frames and out again.
+ *
+ * A space packet and an encapsulation packet go through the multiplexer, and a
+ * flush closes the last frame. The frames then go to an extractor, which hands
+ * the packets back, and to a judge, which says whether the run is sound.
+ *
+ * Build and run (`rt staticlib exports` writes the library):
+ *
+ *   cc -std=c99 -I../../include -o sample sample.c ../../target/staticlib/libexports.a
+ *   ./sample
+ */
+#include "itzahuemo.h"
+
+#include <inttypes.h>
+#include <stdio.h>
+#include <stdlib.h>
+
+#define ZONE 10
+#define LIMIT 1024
+#define FRAME (ZONE + 8)
+#define FRAMES 4
+
+static const uint64_t settings[ITZ_SETTINGS_NUMBERS] = {66, 3, ZONE, LIMIT, 0x55};
+
+static uint8_t frames[FRAMES][FRAME];
+static size_t written; /* frames that are full; the next one is in work */
+
+/* Ends the program when a call is refused. */
+static void must(const char *call, uint64_t refusal)
+{
+    if (refusal != 0) {
+        fprintf(stderr, "%s: refused %" PRIu64 "\n", call, refusal);
+        exit(EXIT_FAILURE);
+    }
+}
+
+/* ---- Sending ------------------------------------------------------------ */
+
+/* The frame in work is full: shows it and goes on to the next. */
+static void frame_is_full(void)
+{
+    printf("written");
+    for (size_t i = 0; i < FRAME; i++)
+        printf(" %02X", frames[written][i]);
+    printf("\n");
+    written++;
+}
+
+/* Puts a whole packet, into as many frames as it takes. */
+static void send_packet(uint64_t *mux, const uint8_t *packet, size_t size)
+{
+    uint64_t put[ITZ_PUT_NUMBERS];
+    do {
+        must("put", itz_mux_put(settings, ITZ_SETTINGS_NUMBERS, mux, ITZ_MUX_NUMBERS, packet, size,
+                                frames[written], FRAME, put, ITZ_PUT_NUMBERS));
+        if (put[0])
+            frame_is_full();
+    } while (!put[1]);
+}
+
+static void flush(uint64_t *mux)
+{
+    uint64_t flushed[ITZ_FLUSH_NUMBERS];
+    must("flush", itz_mux_flush(settings, ITZ_SETTINGS_NUMBERS, mux, ITZ_MUX_NUMBERS,
+                                frames[written], FRAME, flushed, ITZ_FLUSH_NUMBERS));
+    if (flushed[0])
+        frame_is_full();
+}
+
+/* ---- Receiving ---------------------------------------------------------- */
+
+/* Says what a packet is: its kind, its APID or protocol, its length. */
+static void show_packet(const uint8_t *packet, size_t size)
+{
+    uint64_t header[ITZ_HEADER_NUMBERS];
+    must("header", itz_read_header(LIMIT, packet, size, header, ITZ_HEADER_NUMBERS));
+    if (header[2])
+        printf("idle %" PRIu64 "\n", header[5]);
+    else
+        printf("%s %" PRIu64 " %" PRIu64 "\n", header[1] == 1 ? "space" : "encap", header[3], header[5]);
+}
+
+/* Enters a frame and takes everything out of it. */
+static void receive(uint64_t *extractor, uint8_t *store, const uint8_t *frame)
+{
+    uint64_t entered[ITZ_ENTERED_NUMBERS];
+    uint64_t step[ITZ_STEP_NUMBERS];
+    must("enter", itz_extractor_enter(settings, ITZ_SETTINGS_NUMBERS, extractor, ITZ_EXTRACTOR_NUMBERS,
+                                      store, LIMIT, frame, FRAME, entered, ITZ_ENTERED_NUMBERS));
+    printf("frame %" PRIu64 " lost %" PRIu64 " dropped %" PRIu64 " reason %" PRIu64 "\n",
+           entered[0], entered[2], entered[3], entered[4]);
+    for (;;) {
+        must("step", itz_extractor_step(settings, ITZ_SETTINGS_NUMBERS, extractor, ITZ_EXTRACTOR_NUMBERS,
+                                        store, LIMIT, frame, FRAME, step, ITZ_STEP_NUMBERS));
+        if (step[0] == 0)
+            return;
+        if (step[0] == 3)
+            printf("damaged\n");
+        else
+            show_packet((step[1] == 1 ? frame : store) + step[2], (size_t)step[3]);
+    }
+}
+
+/* Judges the run of all frames that were written. */
+static void judge(void)
+{
+    static uint8_t store[LIMIT];
+    uint64_t record[ITZ_JUDGE_NUMBERS] = ITZ_JUDGE_START;
+    uint64_t verdict[ITZ_VERDICT_NUMBERS];
+    for (size_t i = 0; i < written; i++)
+        must("judge", itz_judge_frame(settings, ITZ_SETTINGS_NUMBERS, record, ITZ_JUDGE_NUMBERS,
+                                      store, LIMIT, frames[i], FRAME));
+    must("close", itz_judge_close(settings, ITZ_SETTINGS_NUMBERS, record, ITZ_JUDGE_NUMBERS,
+                                  store, LIMIT, verdict, ITZ_VERDICT_NUMBERS));
+    if (verdict[0])
+        printf("fault %" PRIu64 "\n", verdict[1]);
+    else
+        printf("pass\n");
+}
+
+int main(void)
+{
+    static const uint8_t space[] = {0x00, 0x05, 0xC0, 0x00, 0x00, 0x01, 0xAA, 0xBB};
+    static const uint8_t encapsulation[] = {0xE9, 0x05, 0x11, 0x22, 0x33};
+    static uint8_t store[LIMIT];
+    uint64_t mux[ITZ_MUX_NUMBERS] = ITZ_MUX_START;
+    uint64_t extractor[ITZ_EXTRACTOR_NUMBERS] = ITZ_EXTRACTOR_START;
+
+    send_packet(mux, space, sizeof space);
+    send_packet(mux, encapsulation, sizeof encapsulation);
+    flush(mux);
+    for (size_t i = 0; i < written; i++)
+        receive(extractor, store, frames[i]);
+    judge();
+    return EXIT_SUCCESS;
+}

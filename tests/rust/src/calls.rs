@@ -1,0 +1,488 @@
+//! The calls of the C interface, over slices.
+//!
+//! Settings, records and answers are arrays of numbers; include/itzahuemo.h says
+//! what each entry means. [`Reference`] answers the calls by the rules of
+//! [`crate::reference`]; with the feature `library`, the library does so too.
+
+use crate::reference::bitstream::{self, Reader, Writer};
+use crate::reference::extractor::{self, Part, Step};
+use crate::reference::frame::Settings;
+use crate::reference::judge::{self, Verdict};
+use crate::reference::multiplexer;
+use crate::reference::packet::{self, Kind, Look};
+use crate::reference::{wrap, Refusal};
+
+/// Entries of each array.
+pub const SETTINGS: usize = 5;
+pub const BIT_SETTINGS: usize = 4;
+pub const HEADER: usize = 6;
+pub const WRAPPED: usize = 1;
+pub const UNWRAPPED: usize = 4;
+pub const MUX: usize = 4;
+pub const PUT: usize = 2;
+pub const FLUSH: usize = 1;
+pub const EXTRACTOR: usize = 4;
+pub const ENTERED: usize = 5;
+pub const STEP: usize = 4;
+pub const JUDGE: usize = 4;
+pub const VERDICT: usize = 2;
+pub const BIT_WRITER: usize = 1;
+pub const BIT_READER: usize = 2;
+pub const BITS: usize = 6;
+
+/// The calls. Each answers a refusal number, 0 when it was not refused.
+pub trait Calls {
+    fn read_header(&self, limit: u64, octets: &[u8], answer: &mut [u64]) -> u64;
+
+    fn wrap(
+        &self,
+        limit: u64,
+        protocol: u64,
+        extension: u64,
+        data: &[u8],
+        packet: &mut [u8],
+        answer: &mut [u64],
+    ) -> u64;
+
+    fn unwrap(&self, limit: u64, packet: &[u8], answer: &mut [u64]) -> u64;
+
+    fn mux_put(
+        &self,
+        settings: &[u64],
+        record: &mut [u64],
+        packet: &[u8],
+        frame: &mut [u8],
+        answer: &mut [u64],
+    ) -> u64;
+
+    fn mux_flush(
+        &self,
+        settings: &[u64],
+        record: &mut [u64],
+        frame: &mut [u8],
+        answer: &mut [u64],
+    ) -> u64;
+
+    fn mux_idle(&self, settings: &[u64], record: &mut [u64], frame: &mut [u8]) -> u64;
+
+    fn extractor_enter(
+        &self,
+        settings: &[u64],
+        record: &mut [u64],
+        store: &[u8],
+        frame: &[u8],
+        answer: &mut [u64],
+    ) -> u64;
+
+    fn extractor_step(
+        &self,
+        settings: &[u64],
+        record: &mut [u64],
+        store: &mut [u8],
+        frame: &[u8],
+        answer: &mut [u64],
+    ) -> u64;
+
+    fn judge_frame(
+        &self,
+        settings: &[u64],
+        record: &mut [u64],
+        store: &mut [u8],
+        frame: &[u8],
+    ) -> u64;
+
+    fn judge_close(
+        &self,
+        settings: &[u64],
+        record: &[u64],
+        store: &[u8],
+        answer: &mut [u64],
+    ) -> u64;
+
+    fn bits_write(
+        &self,
+        settings: &[u64],
+        record: &mut [u64],
+        bits: &[u8],
+        number: u64,
+        frame: &mut [u8],
+    ) -> u64;
+
+    fn bits_read(
+        &self,
+        settings: &[u64],
+        record: &mut [u64],
+        frame: &[u8],
+        answer: &mut [u64],
+    ) -> u64;
+}
+
+/// The calls as document 01 has them.
+#[derive(Clone, Copy, Debug, Default)]
+pub struct Reference;
+
+impl Calls for Reference {
+    fn read_header(&self, limit: u64, octets: &[u8], answer: &mut [u64]) -> u64 {
+        answered::<HEADER>(answer, || {
+            Ok(match packet::read_header(number(limit)?, octets)? {
+                Look::Cut => [0; HEADER],
+                Look::Damaged => [1, 0, 0, 0, 0, 0],
+                Look::Whole(header) => {
+                    let (kind, key) = match header.kind {
+                        Kind::Space { apid } => (1, apid.into()),
+                        Kind::Encapsulation { protocol } => (2, protocol.into()),
+                    };
+                    let idle = header.kind.is_idle().into();
+                    [2, kind, idle, key, header.length as u64, header.total as u64]
+                }
+            })
+        })
+    }
+
+    fn wrap(
+        &self,
+        limit: u64,
+        protocol: u64,
+        extension: u64,
+        data: &[u8],
+        packet: &mut [u8],
+        answer: &mut [u64],
+    ) -> u64 {
+        answered::<WRAPPED>(answer, || {
+            let (protocol, extension) = (number(protocol)?, number(extension)?);
+            let total = wrap::wrap(number(limit)?, protocol, extension, data, packet)?;
+            Ok([total as u64])
+        })
+    }
+
+    fn unwrap(&self, limit: u64, packet: &[u8], answer: &mut [u64]) -> u64 {
+        answered::<UNWRAPPED>(answer, || {
+            let unwrapped = wrap::unwrap(number(limit)?, packet)?;
+            let size = unwrapped.data.len();
+            let start = packet.len() - size;
+            let (protocol, extension) = (unwrapped.protocol, unwrapped.extension);
+            Ok([protocol.into(), extension.into(), start as u64, size as u64])
+        })
+    }
+
+    fn mux_put(
+        &self,
+        settings: &[u64],
+        record: &mut [u64],
+        packet: &[u8],
+        frame: &mut [u8],
+        answer: &mut [u64],
+    ) -> u64 {
+        with_record::<SETTINGS, MUX, PUT>(settings, record, answer, |settings, record| {
+            let settings = read_settings(settings)?;
+            let mut state = read_mux(record);
+            let put = multiplexer::put(&settings, &mut state, packet, frame)?;
+            *record = mux_numbers(&state);
+            Ok([put.full.into(), put.taken.into()])
+        })
+    }
+
+    fn mux_flush(
+        &self,
+        settings: &[u64],
+        record: &mut [u64],
+        frame: &mut [u8],
+        answer: &mut [u64],
+    ) -> u64 {
+        with_record::<SETTINGS, MUX, FLUSH>(settings, record, answer, |settings, record| {
+            let settings = read_settings(settings)?;
+            let mut state = read_mux(record);
+            let written = multiplexer::flush(&settings, &mut state, frame)?;
+            *record = mux_numbers(&state);
+            Ok([written.into()])
+        })
+    }
+
+    fn mux_idle(&self, settings: &[u64], record: &mut [u64], frame: &mut [u8]) -> u64 {
+        with_record::<SETTINGS, MUX, 0>(settings, record, &mut [], |settings, record| {
+            let settings = read_settings(settings)?;
+            let mut state = read_mux(record);
+            multiplexer::idle(&settings, &mut state, frame)?;
+            *record = mux_numbers(&state);
+            Ok([])
+        })
+    }
+
+    fn extractor_enter(
+        &self,
+        settings: &[u64],
+        record: &mut [u64],
+        store: &[u8],
+        frame: &[u8],
+        answer: &mut [u64],
+    ) -> u64 {
+        with_record::<SETTINGS, EXTRACTOR, ENTERED>(settings, record, answer, |settings, record| {
+            let settings = read_settings(settings)?;
+            let mut state = read_extractor(record);
+            let entered = extractor::enter(&settings, &mut state, store, frame)?;
+            *record = extractor_numbers(&state);
+            Ok([
+                entered.count.into(),
+                entered.replay.into(),
+                entered.lost.into(),
+                entered.dropped as u64,
+                entered.reason as u64,
+            ])
+        })
+    }
+
+    fn extractor_step(
+        &self,
+        settings: &[u64],
+        record: &mut [u64],
+        store: &mut [u8],
+        frame: &[u8],
+        answer: &mut [u64],
+    ) -> u64 {
+        with_record::<SETTINGS, EXTRACTOR, STEP>(settings, record, answer, |settings, record| {
+            let settings = read_settings(settings)?;
+            let mut state = read_extractor(record);
+            let step = extractor::step(&settings, &mut state, store, frame)?;
+            *record = extractor_numbers(&state);
+            Ok(match step {
+                Step::Spent => [0, 0, 0, 0],
+                Step::Damaged => [3, 0, 0, 0],
+                Step::Packet { kind, part } => {
+                    let what = if kind.is_idle() { 2 } else { 1 };
+                    match part {
+                        Part::Frame { start, size } => [what, 1, start as u64, size as u64],
+                        Part::Store { size } => [what, 2, 0, size as u64],
+                    }
+                }
+            })
+        })
+    }
+
+    fn judge_frame(
+        &self,
+        settings: &[u64],
+        record: &mut [u64],
+        store: &mut [u8],
+        frame: &[u8],
+    ) -> u64 {
+        with_record::<SETTINGS, JUDGE, 0>(settings, record, &mut [], |settings, record| {
+            let settings = read_settings(settings)?;
+            let mut state = read_judge(record);
+            judge::frame(&settings, &mut state, store, frame)?;
+            *record = judge_numbers(&state);
+            Ok([])
+        })
+    }
+
+    fn judge_close(
+        &self,
+        settings: &[u64],
+        record: &[u64],
+        store: &[u8],
+        answer: &mut [u64],
+    ) -> u64 {
+        let mut same = record.to_vec();
+        with_record::<SETTINGS, JUDGE, VERDICT>(settings, &mut same, answer, |settings, record| {
+            let settings = read_settings(settings)?;
+            Ok(match judge::close(&settings, &read_judge(record), store)? {
+                Verdict::Pass => [0, 0],
+                Verdict::Fault(index) => [1, index.into()],
+            })
+        })
+    }
+
+    fn bits_write(
+        &self,
+        settings: &[u64],
+        record: &mut [u64],
+        bits: &[u8],
+        n: u64,
+        frame: &mut [u8],
+    ) -> u64 {
+        with_record::<BIT_SETTINGS, BIT_WRITER, 0>(settings, record, &mut [], |settings, record| {
+            let settings = read_bit_settings(settings)?;
+            let mut writer = Writer { count: fitted(record[0]) };
+            bitstream::write(&settings, &mut writer, bits, number(n)?, frame)?;
+            *record = [writer.count.into()];
+            Ok([])
+        })
+    }
+
+    fn bits_read(
+        &self,
+        settings: &[u64],
+        record: &mut [u64],
+        frame: &[u8],
+        answer: &mut [u64],
+    ) -> u64 {
+        with_record::<BIT_SETTINGS, BIT_READER, BITS>(
+            settings,
+            record,
+            answer,
+            |settings, record| {
+                let settings = read_bit_settings(settings)?;
+                let mut reader = read_bit_reader(record);
+                let bits = bitstream::read(&settings, &mut reader, frame)?;
+                *record = [1, bits.count.into()];
+                let size = bits.octets.len();
+                let start = settings.frame_length() - settings.width;
+                Ok([
+                    bits.count.into(),
+                    bits.replay.into(),
+                    bits.loss.into(),
+                    bits.number as u64,
+                    start as u64,
+                    size as u64,
+                ])
+            },
+        )
+    }
+}
+
+/// Fills the answer: with what the call says, or with zeros when it is refused.
+/// An answer array that is too short is refused before that and left alone.
+fn answered<const A: usize>(
+    answer: &mut [u64],
+    call: impl FnOnce() -> Result<[u64; A], Refusal>,
+) -> u64 {
+    let answer = match front_mut::<A>(answer) {
+        Some(answer) => answer,
+        None => return Refusal::Room.number(),
+    };
+    match call() {
+        Ok(said) => {
+            *answer = said;
+            0
+        }
+        Err(refusal) => {
+            *answer = [0; A];
+            refusal.number()
+        }
+    }
+}
+
+/// The same with settings and a record, whose arrays must be long enough too.
+fn with_record<const S: usize, const R: usize, const A: usize>(
+    settings: &[u64],
+    record: &mut [u64],
+    answer: &mut [u64],
+    call: impl FnOnce(&[u64; S], &mut [u64; R]) -> Result<[u64; A], Refusal>,
+) -> u64 {
+    match (front(settings), front_mut(record)) {
+        (Some(settings), Some(record)) => answered(answer, || call(settings, record)),
+        _ => Refusal::Room.number(),
+    }
+}
+
+/// The first `N` entries of an array, if it has as many.
+fn front<const N: usize>(array: &[u64]) -> Option<&[u64; N]> {
+    array.get(..N)?.try_into().ok()
+}
+
+fn front_mut<const N: usize>(array: &mut [u64]) -> Option<&mut [u64; N]> {
+    array.get_mut(..N)?.try_into().ok()
+}
+
+/// A number in the type that the rules use for it; one too great is out of range.
+fn number<T: TryFrom<u64>>(value: u64) -> Result<T, Refusal> {
+    T::try_from(value).map_err(|_| Refusal::Range)
+}
+
+/// A count in a record; one too great stays too great.
+fn fitted(value: u64) -> u32 {
+    value.try_into().unwrap_or(u32::MAX)
+}
+
+fn read_settings(settings: &[u64; SETTINGS]) -> Result<Settings, Refusal> {
+    let [spacecraft, channel, zone, limit, fill] = *settings;
+    Ok(Settings {
+        spacecraft: number(spacecraft)?,
+        channel: number(channel)?,
+        zone: number(zone)?,
+        limit: number(limit)?,
+        fill: number(fill)?,
+    })
+}
+
+fn read_bit_settings(settings: &[u64; BIT_SETTINGS]) -> Result<bitstream::Settings, Refusal> {
+    let [spacecraft, channel, width, fill] = *settings;
+    Ok(bitstream::Settings {
+        spacecraft: number(spacecraft)?,
+        channel: number(channel)?,
+        width: number(width)?,
+        fill: number(fill)?,
+    })
+}
+
+fn read_mux(record: &[u64; MUX]) -> multiplexer::Record {
+    let [count, filled, first, taken] = *record;
+    multiplexer::Record {
+        count: fitted(count),
+        filled: filled as usize,
+        // Past 2,047 there is no place in a zone, so the greatest stands for them all.
+        first: first.try_into().unwrap_or(u16::MAX),
+        taken: taken as usize,
+    }
+}
+
+fn mux_numbers(record: &multiplexer::Record) -> [u64; MUX] {
+    let multiplexer::Record { count, filled, first, taken } = *record;
+    [count.into(), filled as u64, first.into(), taken as u64]
+}
+
+/// Numbers that stand for no record are read as one that no call leaves.
+fn read_extractor(record: &[u64; EXTRACTOR]) -> extractor::Record {
+    use extractor::Record;
+    match *record {
+        [0, 0, 0, 0] => Record::Fresh,
+        [1, last, 0, 0] => Record::OutOfStep { last: fitted(last) },
+        [2, last, held, 0] => Record::InStep { last: fitted(last), held: held as usize },
+        [3, last, held, at] => {
+            Record::Walking { last: fitted(last), held: held as usize, at: at as usize }
+        }
+        [4, last, 0, 0] => Record::Leaving { last: fitted(last) },
+        _ => Record::Leaving { last: u32::MAX },
+    }
+}
+
+fn extractor_numbers(record: &extractor::Record) -> [u64; EXTRACTOR] {
+    use extractor::Record;
+    match *record {
+        Record::Fresh => [0, 0, 0, 0],
+        Record::OutOfStep { last } => [1, last.into(), 0, 0],
+        Record::InStep { last, held } => [2, last.into(), held as u64, 0],
+        Record::Walking { last, held, at } => [3, last.into(), held as u64, at as u64],
+        Record::Leaving { last } => [4, last.into(), 0, 0],
+    }
+}
+
+/// Numbers that stand for no record are read as one that no call leaves.
+fn read_judge(record: &[u64; JUDGE]) -> judge::Record {
+    use judge::Record;
+    match *record {
+        [0, 0, 0, 0] => Record::Open,
+        [1, tally, last, held] => {
+            Record::Sound { tally: fitted(tally), last: fitted(last), held: held as usize }
+        }
+        [2, tally, at, 0] => Record::Faulty { tally: fitted(tally), at: fitted(at) },
+        _ => Record::Faulty { tally: 0, at: 0 },
+    }
+}
+
+fn judge_numbers(record: &judge::Record) -> [u64; JUDGE] {
+    use judge::Record;
+    match *record {
+        Record::Open => [0, 0, 0, 0],
+        Record::Sound { tally, last, held } => [1, tally.into(), last.into(), held as u64],
+        Record::Faulty { tally, at } => [2, tally.into(), at.into(), 0],
+    }
+}
+
+/// Numbers that stand for no record are read as one that no call leaves.
+fn read_bit_reader(record: &[u64; BIT_READER]) -> Reader {
+    match *record {
+        [0, 0] => Reader { last: None },
+        [1, last] => Reader { last: Some(fitted(last)) },
+        _ => Reader { last: Some(u32::MAX) },
+    }
+}

@@ -1,0 +1,419 @@
+//! Generators: settings, packets, runs that conform, and ways to spoil them.
+
+use crate::calls::{BIT_SETTINGS, EXTRACTOR, JUDGE, MUX, SETTINGS};
+use crate::random::Random;
+use crate::reference::frame::{self, Settings, HEAD, IDLE_ZONE, NO_START, WHEEL};
+use crate::reference::multiplexer;
+use crate::reference::packet::{write_space_header, SpaceFields, IDLE_APID};
+
+/// Settings in range: every small zone, some great ones, limits at both ends.
+pub fn settings(random: &mut Random) -> Settings {
+    let zone = match random.within(1, 20) {
+        1 => random.pick(&[1, 2, 6, 7, 8, 2_045, 2_046]),
+        2 => random.within(41, 2_046),
+        3 => random.within(255, 262),
+        _ => random.within(1, 40),
+    };
+    let least = zone.max(7);
+    let limit = match random.within(1, 40) {
+        1 => random.pick(&[65_541, 65_542]),
+        2..=8 => least,
+        9..=12 => least + 1,
+        13..=20 => least + random.within(0, 12),
+        _ => least + random.within(0, 400),
+    };
+    let any = random.octet();
+    Settings {
+        spacecraft: random.pick(&[0, 66, 255, any]),
+        channel: random.within(0, 62) as u8,
+        zone,
+        limit,
+        fill: random.octet(),
+    }
+}
+
+/// The settings as numbers.
+pub fn settings_numbers(settings: &Settings) -> [u64; SETTINGS] {
+    let Settings { spacecraft, channel, zone, limit, fill } = *settings;
+    [spacecraft.into(), channel.into(), zone as u64, limit as u64, fill.into()]
+}
+
+/// Settings of which one is out of range, or at the edge of it.
+pub fn settings_at_an_edge(random: &mut Random, settings: &Settings) -> [u64; SETTINGS] {
+    let mut numbers = settings_numbers(settings);
+    let huge = random.pick(&[u64::MAX, 1 << 32, (1 << 32) + 7, 1 << 16]);
+    let least = settings.zone.max(7) as u64;
+    match random.within(0, 4) {
+        0 => numbers[0] = random.pick(&[255, 256, huge]),
+        1 => numbers[1] = random.pick(&[62, 63, 64, 255, 256, huge]),
+        2 => numbers[2] = random.pick(&[0, 2_046, 2_047, numbers[3], numbers[3] + 1, huge]),
+        3 => numbers[3] = random.pick(&[0, 6, least - 1, least, 65_542, 65_543, huge]),
+        _ => numbers[4] = random.pick(&[255, 256, huge]),
+    }
+    numbers
+}
+
+/// Bitstream settings of which one is out of range, or at the edge of it.
+pub fn bit_settings_at_an_edge(
+    random: &mut Random,
+    numbers: [u64; BIT_SETTINGS],
+) -> [u64; BIT_SETTINGS] {
+    let mut numbers = numbers;
+    let huge = random.pick(&[u64::MAX, 1 << 32, (1 << 32) + 7, 1 << 16]);
+    match random.within(0, 3) {
+        0 => numbers[0] = random.pick(&[255, 256, huge]),
+        1 => numbers[1] = random.pick(&[62, 63, 64, 255, 256, huge]),
+        2 => numbers[2] = random.pick(&[0, 1, 2_047, 2_048, huge]),
+        _ => numbers[3] = random.pick(&[255, 256, huge]),
+    }
+    numbers
+}
+
+/// A well-formed packet within the limit, of a length that suits the zone.
+pub fn packet(random: &mut Random, settings: &Settings) -> Vec<u8> {
+    let Settings { zone, limit, .. } = *settings;
+    let wished = match random.within(1, 12) {
+        1 => random.within(1, 3),
+        2 => zone,
+        3 => zone + 1,
+        4 => zone.saturating_sub(1),
+        5 => 2 * zone + random.within(0, 2),
+        6 if limit / zone <= 40 => limit - random.within(0, 1),
+        7 => random.within(250, 262),
+        8 => random.within(1, 4 * zone + 12),
+        _ => random.within(1, 24),
+    };
+    packet_of(random, wished.clamp(1, limit.min(60 * zone + 20)))
+}
+
+/// A packet of exactly this length, which is 1 to 65,542.
+pub fn packet_of(random: &mut Random, total: usize) -> Vec<u8> {
+    let mut packet = vec![0; total];
+    match random.within(1, 6) {
+        1 => packet.fill(0),
+        2 => packet.fill(0xE0),
+        _ => packet = random.octets(total),
+    }
+    let space = |size| (7..=65_542).contains(&size);
+    let shapes: [(usize, bool); 5] = [
+        (1, total == 1),
+        (2, (2..=255).contains(&total)),
+        (4, (4..=65_535).contains(&total)),
+        (6, space(total)),
+        (8, total >= 8),
+    ];
+    let mut possible: Vec<usize> =
+        shapes.iter().filter(|(_, fits)| *fits).map(|&(h, _)| h).collect();
+    // Space packets are the common ones.
+    if space(total) {
+        possible.extend([6, 6]);
+    }
+    match random.pick(&possible) {
+        6 => {
+            let fields = SpaceFields {
+                packet_type: random.within(0, 1) as u8,
+                secondary: random.within(0, 1) as u8,
+                apid: if random.once_in(5) { IDLE_APID } else { random.within(0, 2_046) as u16 },
+                flags: random.within(0, 3) as u8,
+                sequence: random.within(0, 16_383) as u16,
+                length: (total - 7) as u16,
+            };
+            write_space_header(&fields, &mut packet).expect("fields in range");
+        }
+        header => {
+            let protocol = if header == 1 { 0 } else { random.within(0, 7) as u8 };
+            packet[0] = 0xE0 | protocol << 2 | header.trailing_zeros() as u8;
+            let length = (total as u32).to_be_bytes();
+            match header {
+                2 => packet[1] = length[3],
+                4 => packet[2..4].copy_from_slice(&length[2..]),
+                8 => packet[4..8].copy_from_slice(&length),
+                _ => {}
+            }
+        }
+    }
+    packet
+}
+
+/// Octets that may or may not begin a packet.
+pub fn front(random: &mut Random, limit: usize) -> Vec<u8> {
+    let total = random.within(1, limit.min(40));
+    let mut octets = packet_of(random, total);
+    octets.extend(random.octets(8));
+    match random.within(1, 6) {
+        1 => octets[0] = random.octet(),
+        2 => {
+            let place = random.within(0, 7);
+            octets[place] = random.pick(&[0, 1, 0x10, 0xFF]);
+        }
+        3 => octets[0] = 0xE0 | random.octet() >> 3,
+        _ => {}
+    }
+    octets
+}
+
+/// Frames, and the packets they carry, with the idle packets of flushes.
+#[derive(Clone, Debug)]
+pub struct Run {
+    pub frames: Vec<Vec<u8>>,
+    pub packets: Vec<Vec<u8>>,
+}
+
+/// A run that conforms. It is closed by a flush, unless `open` lets it end
+/// anywhere.
+pub fn run(random: &mut Random, settings: &Settings, open: bool) -> Run {
+    let mut run = Run { frames: Vec::new(), packets: Vec::new() };
+    let mut record = multiplexer::Record::START;
+    if !random.once_in(3) {
+        let any = random.any() as u32 % WHEEL;
+        record.count = random.pick(&[WHEEL - 1, WHEEL - 2, any]);
+    }
+    let mut frame = random.octets(settings.frame_length());
+    for _ in 0..random.within(0, 10) {
+        if random.once_in(6) {
+            flush(settings, &mut record, &mut frame, &mut run);
+        }
+        if record.filled == 0 && random.once_in(4) {
+            multiplexer::idle(settings, &mut record, &mut frame).expect("an empty zone");
+            run.frames.push(frame.clone());
+        }
+        let packet = packet(random, settings);
+        loop {
+            let put = multiplexer::put(settings, &mut record, &packet, &mut frame)
+                .expect("a packet at its moment");
+            if put.full {
+                run.frames.push(frame.clone());
+            }
+            if put.taken {
+                break;
+            }
+        }
+        run.packets.push(packet);
+    }
+    if !(open && random.once_in(2)) {
+        flush(settings, &mut record, &mut frame, &mut run);
+    }
+    run
+}
+
+fn flush(settings: &Settings, record: &mut multiplexer::Record, frame: &mut [u8], run: &mut Run) {
+    let start = HEAD + record.filled;
+    if multiplexer::flush(settings, record, frame).expect("no packet is open") {
+        run.frames.push(frame.to_vec());
+        run.packets.push(frame[start..].to_vec());
+    }
+}
+
+/// Spoils a run in one way. Frames may come out with another length.
+pub fn spoil(random: &mut Random, settings: &Settings, frames: &mut Vec<Vec<u8>>) {
+    if frames.is_empty() {
+        frames.push(random.octets(settings.frame_length()));
+        return;
+    }
+    let place = random.within(0, frames.len() - 1);
+    let other = random.within(0, frames.len() - 1);
+    match random.within(1, 23) {
+        // Gaps, repeats and frames in another order.
+        1 | 2 => {
+            frames.remove(place);
+        }
+        3 => frames.insert(other, frames[place].clone()),
+        4 => frames.swap(place, other),
+        5 => random.shuffle(frames),
+        6 => frames.truncate(place),
+        // A gap that the counts do not show.
+        7 => {
+            frames.remove(place);
+            renumber(frames);
+        }
+        8 => {
+            frames.insert(place, idle_frame(random, settings));
+            renumber(frames);
+        }
+        9 => frames.insert(place, idle_frame(random, settings)),
+        // Damage.
+        10 | 11 => flip(random, &mut frames[place], 0, HEAD - 1),
+        12 => flip(random, &mut frames[place], HEAD, settings.frame_length() - 1),
+        13 => {
+            let at = random.within(HEAD, settings.frame_length() - 1);
+            let any = random.octet();
+            if let Some(octet) = frames[place].get_mut(at) {
+                *octet = random.pick(&[0, 0xFF, 0xE0, 0xE1, 0x20, any]);
+            }
+        }
+        // Where a header begun in an earlier zone goes on.
+        14..=16 => flip(random, &mut frames[place], HEAD, HEAD + settings.zone.min(8) - 1),
+        17 | 18 => {
+            let pointer = some_pointer(random, settings, &frames[place]);
+            set_pointer(&mut frames[place], pointer);
+        }
+        19 => set_count(&mut frames[place], random.any() as u32 % WHEEL),
+        20 => {
+            if let Some(octet) = frames[place].get_mut(5) {
+                *octet ^= 0x80;
+            }
+        }
+        21 => {
+            let size = frames[place].len().saturating_sub(random.within(1, 9));
+            frames[place].truncate(size);
+        }
+        22 => frames[place].push(random.octet()),
+        _ => {
+            let zone = random.octets(settings.zone);
+            if let Some(part) = frames[place].get_mut(HEAD..settings.frame_length()) {
+                part.copy_from_slice(&zone);
+            }
+        }
+    }
+}
+
+/// A frame with an idle zone of any octets.
+fn idle_frame(random: &mut Random, settings: &Settings) -> Vec<u8> {
+    let mut frame = random.octets(settings.frame_length());
+    frame::write(settings, random.any() as u32 % WHEEL, IDLE_ZONE, &mut frame);
+    frame
+}
+
+/// Gives the frames counts that rise by one.
+fn renumber(frames: &mut [Vec<u8>]) {
+    for (count, frame) in frames.iter_mut().enumerate() {
+        set_count(frame, count as u32);
+    }
+}
+
+fn set_count(frame: &mut [u8], count: u32) {
+    if let Some(octets) = frame.get_mut(2..5) {
+        octets.copy_from_slice(&count.to_be_bytes()[1..]);
+    }
+}
+
+fn set_pointer(frame: &mut [u8], pointer: u16) {
+    if let Some(octets) = frame.get_mut(6..8) {
+        octets.copy_from_slice(&pointer.to_be_bytes());
+    }
+}
+
+fn some_pointer(random: &mut Random, settings: &Settings, frame: &[u8]) -> u16 {
+    let zone = settings.zone as u16;
+    let now = frame.get(6..8).map_or(0, |octets| u16::from_be_bytes([octets[0], octets[1]]));
+    match random.within(1, 9) {
+        1 => IDLE_ZONE,
+        2 => NO_START,
+        3 => 0,
+        4 => now.wrapping_add(1) % 2_048,
+        5 => now.wrapping_sub(1) % 2_048,
+        6 => zone,
+        7 => 2_045,
+        8 => random.any() as u16 % 2_048,
+        _ => random.any() as u16 % zone,
+    }
+}
+
+fn flip(random: &mut Random, frame: &mut [u8], least: usize, most: usize) {
+    let place = random.within(least, most);
+    if let Some(octet) = frame.get_mut(place) {
+        *octet ^= 1 << random.within(0, 7);
+    }
+}
+
+/// A number that is often at an edge of what these rules allow.
+fn number(random: &mut Random, edges: &[u64]) -> u64 {
+    match random.within(1, 12) {
+        1 => random.any(),
+        2 => random.pick(&[u64::MAX, 1 << 24, (1 << 24) - 1, 1 << 32, 1 << 16]),
+        _ => random.pick(edges),
+    }
+}
+
+/// A multiplexer's record, reachable or not.
+pub fn mux_record(random: &mut Random, settings: &Settings) -> [u64; MUX] {
+    let (zone, limit) = (settings.zone as u64, settings.limit as u64);
+    let any = random.any();
+    let filled = number(random, &[0, 0, 1, zone - 1, any % zone, any % zone, zone]);
+    let first =
+        number(random, &[0, 2_047, 2_047, 2_046, filled, filled.wrapping_sub(1), any % zone]);
+    let taken = number(random, &[0, 0, 0, 1, 7, any % limit, limit - 1, limit]);
+    let count = number(random, &[0, 1, any % (1 << 24), (1 << 24) - 1]);
+    match random.within(1, 4) {
+        1 => [count, 0, 2_047, taken],
+        2 => [count, filled, 2_047, 0],
+        3 => [count, filled, first, 0],
+        _ => [count, filled, first, taken],
+    }
+}
+
+/// An extractor's record, reachable or not, for a store of this length.
+pub fn extractor_record(
+    random: &mut Random,
+    settings: &Settings,
+    store: usize,
+) -> [u64; EXTRACTOR] {
+    let zone = settings.zone as u64;
+    let any = random.any();
+    let last = number(random, &[0, any % (1 << 24), (1 << 24) - 1]);
+    let held = some_held(random, settings, store);
+    let at = number(random, &[0, 0, any % zone, zone - 1, zone, zone + 1]);
+    match random.within(0, 12) {
+        0 => [0, 0, 0, 0],
+        1 => [1, last, 0, 0],
+        2..=4 => [2, last, held, 0],
+        5..=7 => [3, last, held, 0],
+        8 | 9 => [3, last, 0, at],
+        10 => [4, last, 0, 0],
+        11 => [number(random, &[0, 1, 2, 3, 4, 5]), last, held, at],
+        _ => [
+            number(random, &[0, 1, 2, 4, 5]),
+            number(random, &[0, 1]),
+            number(random, &[0, 1]),
+            number(random, &[0, 1]),
+        ],
+    }
+}
+
+/// A judge's record, reachable or not, for a store of this length.
+pub fn judge_record(random: &mut Random, settings: &Settings, store: usize) -> [u64; JUDGE] {
+    let any = random.any();
+    let held = some_held(random, settings, store);
+    let zone = settings.zone as u64;
+    let filling = (held + zone - 1) / zone;
+    let most = 1 << 24;
+    let tally = number(
+        random,
+        &[
+            0,
+            1,
+            2,
+            filling,
+            filling,
+            filling.wrapping_sub(1),
+            any % most,
+            most,
+            most,
+            most - 1,
+            most + 1,
+        ],
+    );
+    let last = number(random, &[0, any % most, most - 1]);
+    let at = number(random, &[0, tally.wrapping_sub(1), tally.wrapping_sub(1), tally, any % most]);
+    match random.within(0, 9) {
+        0 => [0, 0, 0, 0],
+        1..=4 => [1, tally, last, held],
+        5..=7 => [2, tally, at, 0],
+        8 => [number(random, &[0, 1, 2, 3]), tally, last, held],
+        _ => [
+            number(random, &[0, 1, 2, 3]),
+            number(random, &[0, 1]),
+            number(random, &[0, 1]),
+            number(random, &[0, 1]),
+        ],
+    }
+}
+
+fn some_held(random: &mut Random, settings: &Settings, store: usize) -> u64 {
+    let limit = settings.limit as u64;
+    let few = random.any() % 10;
+    number(
+        random,
+        &[0, few, few, few, few, limit - 1, limit, limit + 1, store as u64, store as u64 + 1],
+    )
+}

@@ -1,0 +1,124 @@
+//! The order in which each call makes its checks.
+//!
+//! For every call there are arguments that it accepts, and for every refusal it
+//! can give a change to those arguments that calls for it. The changes do not
+//! disturb each other, so any set of them can be made at once; the refusal is then
+//! the one that comes first in the call's order.
+
+use crate::calls::{self, Calls};
+
+/// A call and its refusals in the order of the checks.
+#[derive(Clone, Copy, Debug)]
+pub struct Order {
+    pub call: &'static str,
+    pub refusals: &'static [u64],
+}
+
+pub const ORDERS: [Order; 12] = [
+    Order { call: "read_header", refusals: &[1] },
+    Order { call: "wrap", refusals: &[1, 8, 2] },
+    Order { call: "unwrap", refusals: &[1, 8, 6] },
+    Order { call: "mux_put", refusals: &[1, 2, 10, 9, 8] },
+    Order { call: "mux_flush", refusals: &[1, 2, 10, 9] },
+    Order { call: "mux_idle", refusals: &[1, 2, 10, 9] },
+    Order { call: "extractor_enter", refusals: &[1, 2, 10, 9, 3, 4, 5, 6, 7] },
+    Order { call: "extractor_step", refusals: &[1, 2, 10, 9, 3] },
+    Order { call: "judge_frame", refusals: &[1, 2, 10, 11] },
+    Order { call: "judge_close", refusals: &[1, 2, 10] },
+    Order { call: "bits_write", refusals: &[1, 2, 10] },
+    Order { call: "bits_read", refusals: &[1, 10, 3, 4, 5, 6, 7] },
+];
+
+/// The arguments of any of the calls.
+#[derive(Clone, Debug, PartialEq, Eq)]
+pub struct Arguments {
+    /// Settings; or a limit, a protocol and an extension.
+    pub numbers: Vec<u64>,
+    pub record: Vec<u64>,
+    /// What is only read: a frame, a packet, data or bits.
+    pub octets: Vec<u8>,
+    /// What may be written: a frame, a packet or the store.
+    pub buffer: Vec<u8>,
+    pub answer: Vec<u64>,
+}
+
+const TOO_GREAT: u64 = 1 << 24;
+
+/// Arguments for a call with these refusals in them.
+pub fn arguments(call: &str, refusals: &[u64]) -> Arguments {
+    let packet = vec![0xEA, 0x00, 0x00, 0x07, 0xA1, 0xA2, 0xA3];
+    let channel = vec![66, 3, 10, 64, 0x55];
+    let frame = [&[0x50, 0x83, 0, 0, 5, 0, 0, 0][..], &[0xE0; 10]].concat();
+    let (numbers, record, octets, buffer, answer) = match call {
+        "read_header" => (vec![64, 0, 0], vec![], packet, vec![], calls::HEADER),
+        "wrap" => (vec![64, 2, 0], vec![], vec![0xA1; 5], vec![0; 7], calls::WRAPPED),
+        "unwrap" => (vec![64, 0, 0], vec![], packet, vec![], calls::UNWRAPPED),
+        "mux_put" => (channel, vec![5, 0, 2_047, 0], packet, vec![0; 18], calls::PUT),
+        "mux_flush" => (channel, vec![5, 0, 2_047, 0], vec![], vec![0; 18], calls::FLUSH),
+        "mux_idle" => (channel, vec![5, 0, 2_047, 0], vec![], vec![0; 18], 0),
+        "extractor_enter" => (channel, vec![2, 4, 0, 0], frame, vec![0; 64], calls::ENTERED),
+        "extractor_step" => (channel, vec![3, 5, 0, 0], frame, vec![0; 64], calls::STEP),
+        "judge_frame" => (channel, vec![1, 5, 4, 0], frame, vec![0; 64], 0),
+        "judge_close" => (channel, vec![1, 5, 4, 0], vec![], vec![0; 64], calls::VERDICT),
+        "bits_write" => (vec![66, 3, 10, 0x55], vec![5], vec![0xA1; 2], vec![0; 18], 0),
+        "bits_read" => (vec![66, 3, 10, 0x55], vec![1, 4], frame, vec![], calls::BITS),
+        _ => panic!("no call {call}"),
+    };
+    let answer = vec![u64::MAX; answer];
+    let mut arguments = Arguments { numbers, record, octets, buffer, answer };
+    for &refusal in refusals {
+        change(call, refusal, &mut arguments);
+    }
+    arguments
+}
+
+fn change(call: &str, refusal: u64, arguments: &mut Arguments) {
+    let Arguments { numbers, record, octets, buffer, .. } = arguments;
+    match (refusal, call) {
+        (1, "read_header" | "unwrap") => numbers[0] = 6,
+        (1, "wrap") => numbers[1] = 0,
+        (1, _) => numbers[1] = 63,
+        (2, _) => {
+            buffer.pop();
+        }
+        (10, "extractor_enter" | "extractor_step" | "bits_read") => record[1] = TOO_GREAT,
+        (10, "judge_frame" | "judge_close") => record[2] = TOO_GREAT,
+        (10, _) => record[0] = TOO_GREAT,
+        // More is taken of the packet than it has; or a packet is open.
+        (9, "mux_put" | "mux_flush" | "mux_idle") => record[3] = 20,
+        (9, "extractor_enter") => record[0] = 3,
+        (9, _) => record[0] = 2,
+        (11, _) => record[1] = TOO_GREAT,
+        (3, _) => octets.push(0),
+        (4, _) => octets[0] ^= 0x80,
+        (5, _) => octets[1] ^= 0x01,
+        (6, "unwrap") => octets[1] = 0x01,
+        (6, "extractor_enter") => octets[6] |= 0x08,
+        (6, _) => octets[6] |= 0x40,
+        (7, "extractor_enter") => octets[7] = 10,
+        (7, _) => octets[7] = 79,
+        (8, "mux_put" | "unwrap") => octets.push(0),
+        (8, _) => octets.clear(),
+        _ => panic!("{call} never gives {refusal}"),
+    }
+}
+
+/// Makes a call with these arguments.
+pub fn make(calls: &dyn Calls, call: &str, arguments: &mut Arguments) -> u64 {
+    let Arguments { numbers, record, octets, buffer, answer } = arguments;
+    match call {
+        "read_header" => calls.read_header(numbers[0], octets, answer),
+        "wrap" => calls.wrap(numbers[0], numbers[1], numbers[2], octets, buffer, answer),
+        "unwrap" => calls.unwrap(numbers[0], octets, answer),
+        "mux_put" => calls.mux_put(numbers, record, octets, buffer, answer),
+        "mux_flush" => calls.mux_flush(numbers, record, buffer, answer),
+        "mux_idle" => calls.mux_idle(numbers, record, buffer),
+        "extractor_enter" => calls.extractor_enter(numbers, record, buffer, octets, answer),
+        "extractor_step" => calls.extractor_step(numbers, record, buffer, octets, answer),
+        "judge_frame" => calls.judge_frame(numbers, record, buffer, octets),
+        "judge_close" => calls.judge_close(numbers, record, buffer, answer),
+        "bits_write" => calls.bits_write(numbers, record, octets, 13, buffer),
+        "bits_read" => calls.bits_read(numbers, record, octets, answer),
+        _ => panic!("no call {call}"),
+    }
+}

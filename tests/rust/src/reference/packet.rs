@@ -1,0 +1,141 @@
+//! Space packets and encapsulation packets: what their headers say.
+
+use std::ops::RangeInclusive;
+
+use super::{require, Refusal};
+
+/// The limits that may be set on a packet's total length.
+pub const LIMITS: RangeInclusive<usize> = 7..=65_542;
+
+/// No header is longer than this.
+pub const LONGEST_HEADER: usize = 8;
+
+/// The APID of idle space packets.
+pub const IDLE_APID: u16 = 2_047;
+
+/// What a packet is, and for whom.
+#[derive(Clone, Copy, Debug, PartialEq, Eq)]
+pub enum Kind {
+    Space { apid: u16 },
+    Encapsulation { protocol: u8 },
+}
+
+impl Kind {
+    pub fn is_idle(self) -> bool {
+        match self {
+            Kind::Space { apid } => apid == IDLE_APID,
+            Kind::Encapsulation { protocol } => protocol == 0,
+        }
+    }
+}
+
+/// A whole header that is not damaged.
+#[derive(Clone, Copy, Debug, PartialEq, Eq)]
+pub struct Header {
+    pub kind: Kind,
+    /// Octets of the header itself.
+    pub length: usize,
+    /// Octets of the packet, header included.
+    pub total: usize,
+}
+
+/// What the front of some octets shows.
+#[derive(Clone, Copy, Debug, PartialEq, Eq)]
+pub enum Look {
+    /// Nothing wrong so far, but the header needs more octets.
+    Cut,
+    /// No well-formed packet begins so.
+    Damaged,
+    Whole(Header),
+}
+
+/// Reads the header at the front of `octets`. Checks: 1.
+pub fn read_header(limit: usize, octets: &[u8]) -> Result<Look, Refusal> {
+    require(LIMITS.contains(&limit), Refusal::Range)?;
+    Ok(look(limit, octets))
+}
+
+/// Reads the header at the front of `octets`, under a limit that is in range.
+pub(crate) fn look(limit: usize, octets: &[u8]) -> Look {
+    match octets.first().map(|first| first >> 5) {
+        None => Look::Cut,
+        Some(0b000) => look_at_space(limit, octets),
+        Some(0b111) => look_at_encapsulation(limit, octets[0], octets),
+        Some(_) => Look::Damaged,
+    }
+}
+
+fn look_at_space(limit: usize, octets: &[u8]) -> Look {
+    let (a, b, e, f) = match *octets {
+        [a, b, _, _, e, f, ..] => (a, b, e, f),
+        _ => return Look::Cut,
+    };
+    let apid = u16::from_be_bytes([a, b]) & 0x07FF;
+    let field = u16::from_be_bytes([e, f]);
+    measured(limit, Header { kind: Kind::Space { apid }, length: 6, total: usize::from(field) + 7 })
+}
+
+fn look_at_encapsulation(limit: usize, first: u8, octets: &[u8]) -> Look {
+    let protocol = (first >> 2) & 0b111;
+    let length = 1 << (first & 0b11);
+    if length == 1 && protocol != 0 {
+        return Look::Damaged;
+    }
+    let total = match octets.get(..length) {
+        None => return Look::Cut,
+        Some([_, n]) => usize::from(*n),
+        Some([_, _, a, b]) => usize::from(u16::from_be_bytes([*a, *b])),
+        Some([_, _, _, _, a, b, c, d]) => u32::from_be_bytes([*a, *b, *c, *d]) as usize,
+        Some(_) => 1,
+    };
+    measured(limit, Header { kind: Kind::Encapsulation { protocol }, length, total })
+}
+
+/// A whole header is damaged when its length is below the header or above the limit.
+fn measured(limit: usize, header: Header) -> Look {
+    if header.total < header.length || header.total > limit {
+        Look::Damaged
+    } else {
+        Look::Whole(header)
+    }
+}
+
+/// The header of a lent packet, if that is well-formed and has exactly its stated length.
+pub(crate) fn well_formed(limit: usize, packet: &[u8]) -> Option<Header> {
+    match look(limit, packet) {
+        Look::Whole(header) if header.total == packet.len() => Some(header),
+        _ => None,
+    }
+}
+
+/// The fields of a space packet's header behind its version.
+#[derive(Clone, Copy, Debug, PartialEq, Eq)]
+pub struct SpaceFields {
+    pub packet_type: u8,
+    pub secondary: u8,
+    pub apid: u16,
+    pub flags: u8,
+    pub sequence: u16,
+    /// The length field: seven less than the total.
+    pub length: u16,
+}
+
+/// Writes a space packet's header to the front of `out`. Checks: 1, 2.
+pub fn write_space_header(fields: &SpaceFields, out: &mut [u8]) -> Result<(), Refusal> {
+    require(
+        fields.packet_type <= 1
+            && fields.secondary <= 1
+            && fields.apid <= 2_047
+            && fields.flags <= 3
+            && fields.sequence <= 16_383,
+        Refusal::Range,
+    )?;
+    require(out.len() >= 6, Refusal::Room)?;
+    let first =
+        u16::from(fields.packet_type) << 12 | u16::from(fields.secondary) << 11 | fields.apid;
+    let second = u16::from(fields.flags) << 14 | fields.sequence;
+    out[0..2].copy_from_slice(&first.to_be_bytes());
+    out[2..4].copy_from_slice(&second.to_be_bytes());
+    out[4..6].copy_from_slice(&fields.length.to_be_bytes());
+    Ok(())
+}

@@ -1,0 +1,774 @@
+//! Two sets of calls, driven side by side through sessions of random calls.
+//!
+//! Both are lent copies of the same arrays and buffers. After each call what they
+//! answer, and everything that they were lent and might have written, is
+//! compared.
+
+use std::collections::BTreeMap;
+use std::fmt;
+
+use crate::calls::{self, Calls};
+use crate::generate;
+use crate::orders::{self, Arguments, ORDERS};
+use crate::random::Random;
+use crate::reference::bitstream::octets_for;
+use crate::reference::frame::{Settings, HEAD, WHEEL};
+
+/// What the calls have met: how often each call gave each refusal, 0 being none,
+/// and how often other things were said.
+#[derive(Clone, Debug, Default, PartialEq, Eq)]
+pub struct Tally {
+    pub refusals: BTreeMap<(&'static str, u64), u64>,
+    pub said: BTreeMap<(&'static str, u64), u64>,
+}
+
+impl Tally {
+    pub fn add(&mut self, other: &Tally) {
+        for (&key, times) in &other.refusals {
+            *self.refusals.entry(key).or_default() += times;
+        }
+        for (&key, times) in &other.said {
+            *self.said.entry(key).or_default() += times;
+        }
+    }
+}
+
+/// A call after which the two sides do not agree.
+#[derive(Clone, Debug)]
+pub struct Difference {
+    pub call: &'static str,
+    /// The number of the call in its session, from 0.
+    pub index: usize,
+    pub what: String,
+    /// What the call was lent.
+    pub lent: String,
+}
+
+impl fmt::Display for Difference {
+    fn fmt(&self, f: &mut fmt::Formatter) -> fmt::Result {
+        write!(f, "call {} {}: {}; {}", self.index, self.call, self.what, self.lent)
+    }
+}
+
+/// What a call may write.
+#[derive(Clone, Debug, PartialEq, Eq)]
+struct Lent {
+    record: Vec<u64>,
+    buffer: Vec<u8>,
+    answer: Vec<u64>,
+}
+
+/// An entry that no call writes on its own account.
+const JUNK: u64 = 0xA5A5_A5A5_A5A5_A5A5;
+
+/// Two sets of calls and what they have met so far.
+struct Pair<'a> {
+    first: &'a dyn Calls,
+    second: &'a dyn Calls,
+    index: usize,
+    tally: Tally,
+}
+
+impl Pair<'_> {
+    /// Makes a call on both sides with what is lent, and compares. What the call
+    /// only reads is shown beside a difference.
+    fn both(
+        &mut self,
+        call: &'static str,
+        settings: &[u64],
+        read: &[u8],
+        lent: &mut Lent,
+        make: impl Fn(&dyn Calls, &mut Lent) -> u64,
+    ) -> Result<u64, Difference> {
+        let before = lent.clone();
+        let mut other = lent.clone();
+        let first = make(self.first, lent);
+        let second = make(self.second, &mut other);
+        let index = self.index;
+        self.index += 1;
+        if first != second || *lent != other {
+            let what = if first != second {
+                format!("refusal {first} and {second}")
+            } else if lent.record != other.record {
+                format!("record {:?} and {:?}", lent.record, other.record)
+            } else if lent.answer != other.answer {
+                format!("answer {:x?} and {:x?}", lent.answer, other.answer)
+            } else {
+                let place = lent.buffer.iter().zip(&other.buffer).position(|(a, b)| a != b);
+                format!("octet {:?} of the buffer", place.unwrap_or_default())
+            };
+            let lent = format!(
+                "settings {settings:?}, record {:?}, reads {}, may write {}",
+                before.record,
+                shown(read),
+                shown(&before.buffer),
+            );
+            return Err(Difference { call, index, what, lent });
+        }
+        *self.tally.refusals.entry((call, first)).or_default() += 1;
+        Ok(first)
+    }
+
+    fn note(&mut self, what: &'static str, number: u64) {
+        *self.tally.said.entry((what, number)).or_default() += 1;
+    }
+}
+
+/// The length of a buffer and its first octets.
+fn shown(octets: &[u8]) -> String {
+    let front = &octets[..octets.len().min(24)];
+    format!("{} octets {front:02x?}", octets.len())
+}
+
+/// Drives both sides through the session of this seed.
+pub fn session(first: &dyn Calls, second: &dyn Calls, seed: u64) -> Result<Tally, Difference> {
+    let mut pair = Pair { first, second, index: 0, tally: Tally::default() };
+    let mut random = Random::new(seed);
+    let random = &mut random;
+    match random.within(1, 100) {
+        1..=10 => headers(&mut pair, random),
+        11..=20 => wrapping(&mut pair, random),
+        21..=38 => multiplexing(&mut pair, random),
+        39..=68 => extracting(&mut pair, random),
+        69..=83 => judging(&mut pair, random),
+        84..=93 => bits(&mut pair, random),
+        94..=97 => any_record(&mut pair, random),
+        98 => short_arrays(&mut pair, random),
+        _ => several_refusals(&mut pair, random),
+    }?;
+    Ok(pair.tally)
+}
+
+/// An answer array of this many entries, at times with more behind them.
+fn answer(random: &mut Random, entries: usize) -> Vec<u64> {
+    let more = if random.once_in(8) { random.within(1, 3) } else { 0 };
+    vec![JUNK; entries + more]
+}
+
+/// A length for a buffer that needs this many octets: seldom less, at times more.
+fn room(random: &mut Random, needed: usize) -> usize {
+    match random.within(1, 40) {
+        1 => needed.saturating_sub(random.within(1, 3)),
+        2 => random.within(0, needed),
+        3..=8 => needed + random.within(1, 20),
+        _ => needed,
+    }
+}
+
+/// A limit on a packet's length, at times out of range.
+fn some_limit(random: &mut Random) -> u64 {
+    match random.within(1, 12) {
+        1 => random.pick(&[0, 1, 6, 65_543, 65_549, 1 << 32, (1 << 32) + 7, u64::MAX]),
+        2 | 3 => 7,
+        4 => random.pick(&[8, 65_541, 65_542]),
+        5 => random.within(7, 65_542) as u64,
+        _ => random.within(7, 300) as u64,
+    }
+}
+
+/// Settings as numbers: these, or now and then some at the edge of the range.
+fn some_settings(random: &mut Random, settings: &Settings) -> [u64; calls::SETTINGS] {
+    if random.once_in(50) {
+        generate::settings_at_an_edge(random, settings)
+    } else {
+        generate::settings_numbers(settings)
+    }
+}
+
+fn headers(pair: &mut Pair, random: &mut Random) -> Result<(), Difference> {
+    for _ in 0..20 {
+        let limit = some_limit(random);
+        let mut octets = generate::front(random, limit.clamp(1, 70_000) as usize);
+        if random.once_in(3) {
+            octets.truncate(random.within(0, 9));
+        }
+        let answer = answer(random, calls::HEADER);
+        let mut lent = Lent { record: vec![], buffer: vec![], answer };
+        let refusal = pair.both("read_header", &[limit], &octets, &mut lent, |calls, lent| {
+            calls.read_header(limit, &octets, &mut lent.answer)
+        })?;
+        if refusal == 0 {
+            pair.note("header found", lent.answer[0]);
+        }
+    }
+    Ok(())
+}
+
+fn wrapping(pair: &mut Pair, random: &mut Random) -> Result<(), Difference> {
+    for _ in 0..6 {
+        let limit = some_limit(random);
+        let near = limit.clamp(7, 65_542) as usize;
+        let size = match random.within(1, 10) {
+            1 => 0,
+            2 => random.within(250, 256),
+            3 => random.within(65_528, 65_536),
+            4..=6 => near - random.within(0, 7).min(near - 1),
+            _ => random.within(1, 40),
+        };
+        let data = random.octets(size);
+        let protocol = match random.within(1, 8) {
+            1 => random.pick(&[0, 8, 255, 256, 262, u64::MAX]),
+            2..=4 => 6,
+            _ => random.within(1, 7) as u64,
+        };
+        let extension = match random.within(1, 8) {
+            1 => random.pick(&[16, 255, 256, u64::MAX]),
+            2 => random.within(0, 15) as u64,
+            3..=5 if protocol == 6 => random.within(1, 15) as u64,
+            _ => 0,
+        };
+        let header = if size > 65_531 { 8 } else { 4 };
+        let mut lent = Lent {
+            record: vec![],
+            buffer: vec![0x5A; room(random, size + header)],
+            answer: answer(random, calls::WRAPPED),
+        };
+        let arguments = [limit, protocol, extension, size as u64];
+        let refusal = pair.both("wrap", &arguments, &data, &mut lent, |calls, lent| {
+            calls.wrap(limit, protocol, extension, &data, &mut lent.buffer, &mut lent.answer)
+        })?;
+
+        // What was wrapped is unwrapped again, as it is or with one octet changed.
+        let mut packet = if refusal == 0 {
+            lent.buffer[..lent.answer[0] as usize].to_vec()
+        } else {
+            let total = random.within(1, near.min(300));
+            generate::packet_of(random, total)
+        };
+        match random.within(1, 4) {
+            1 => {
+                let place = random.within(0, packet.len().min(8) - 1);
+                let any = random.octet();
+                packet[place] = random.pick(&[0, 1, 0xFF, any]);
+            }
+            2 if random.once_in(3) => packet.truncate(random.within(0, packet.len())),
+            3 if random.once_in(3) => packet.push(0),
+            _ => {}
+        }
+        let limit = if random.once_in(8) { some_limit(random) } else { limit };
+        let answer = answer(random, calls::UNWRAPPED);
+        let mut lent = Lent { record: vec![], buffer: vec![], answer };
+        pair.both("unwrap", &[limit], &packet, &mut lent, |calls, lent| {
+            calls.unwrap(limit, &packet, &mut lent.answer)
+        })?;
+    }
+    Ok(())
+}
+
+fn multiplexing(pair: &mut Pair, random: &mut Random) -> Result<(), Difference> {
+    let settings = generate::settings(random);
+    let size = settings.frame_length() + random.within(0, 3);
+    let mut lent =
+        Lent { record: vec![0, 0, 2_047, 0], buffer: random.octets(size), answer: vec![] };
+    if random.once_in(2) {
+        lent.record[0] = u64::from(WHEEL) - random.within(1, 4) as u64;
+    }
+    let mut packet = generate::packet(random, &settings);
+    for _ in 0..random.within(4, 60) {
+        let numbers = some_settings(random, &settings);
+        let whole = lent.clone();
+        if random.once_in(25) {
+            lent.buffer.truncate(room(random, settings.frame_length()));
+        }
+        match random.within(1, 12) {
+            1 => flush(pair, random, &numbers, &mut lent)?,
+            2 => idle(pair, &numbers, &mut lent)?,
+            3 if random.once_in(3) => {
+                // Another packet than the one begun, or one that is not well-formed.
+                let mut other = generate::packet(random, &settings);
+                match random.within(1, 4) {
+                    1 => other.push(0),
+                    2 => other.truncate(random.within(0, other.len())),
+                    3 => other[0] = random.octet(),
+                    _ => {}
+                }
+                put(pair, random, &numbers, &mut lent, &other)?;
+            }
+            _ => {
+                if put(pair, random, &numbers, &mut lent, &packet)? {
+                    packet = generate::packet(random, &settings);
+                }
+            }
+        }
+        if lent.buffer.len() != whole.buffer.len() {
+            lent.buffer = whole.buffer;
+        }
+    }
+    Ok(())
+}
+
+/// Puts a packet on both sides; answers whether it was taken.
+fn put(
+    pair: &mut Pair,
+    random: &mut Random,
+    numbers: &[u64],
+    lent: &mut Lent,
+    packet: &[u8],
+) -> Result<bool, Difference> {
+    lent.answer = answer(random, calls::PUT);
+    let refusal = pair.both("mux_put", numbers, packet, lent, |calls, lent| {
+        calls.mux_put(numbers, &mut lent.record, packet, &mut lent.buffer, &mut lent.answer)
+    })?;
+    if refusal == 0 {
+        pair.note("full and taken", 2 * lent.answer[0] + lent.answer[1]);
+    }
+    Ok(refusal == 0 && lent.answer[1] == 1)
+}
+
+fn flush(
+    pair: &mut Pair,
+    random: &mut Random,
+    numbers: &[u64],
+    lent: &mut Lent,
+) -> Result<(), Difference> {
+    lent.answer = answer(random, calls::FLUSH);
+    pair.both("mux_flush", numbers, &[], lent, |calls, lent| {
+        calls.mux_flush(numbers, &mut lent.record, &mut lent.buffer, &mut lent.answer)
+    })?;
+    Ok(())
+}
+
+fn idle(pair: &mut Pair, numbers: &[u64], lent: &mut Lent) -> Result<(), Difference> {
+    lent.answer = vec![];
+    pair.both("mux_idle", numbers, &[], lent, |calls, lent| {
+        calls.mux_idle(numbers, &mut lent.record, &mut lent.buffer)
+    })?;
+    Ok(())
+}
+
+/// A run that conforms, or one spoilt in up to four ways.
+fn some_run(random: &mut Random, settings: &Settings) -> Vec<Vec<u8>> {
+    let mut frames = generate::run(random, settings, true).frames;
+    for _ in 0..random.within(0, 4) {
+        generate::spoil(random, settings, &mut frames);
+    }
+    frames
+}
+
+/// A store of random octets; seldom too short.
+fn some_store(random: &mut Random, settings: &Settings) -> Vec<u8> {
+    let size = if random.once_in(60) {
+        room(random, settings.limit)
+    } else {
+        settings.limit + random.pick(&[0, 0, 0, 1, 9])
+    };
+    random.octets(size)
+}
+
+fn extracting(pair: &mut Pair, random: &mut Random) -> Result<(), Difference> {
+    let settings = generate::settings(random);
+    let frames = some_run(random, &settings);
+    let mut lent = Lent {
+        record: vec![0; calls::EXTRACTOR],
+        buffer: some_store(random, &settings),
+        answer: vec![],
+    };
+    for frame in &frames {
+        let numbers = some_settings(random, &settings);
+        if random.once_in(30) {
+            // A step with no frame entered.
+            step(pair, random, &numbers, &mut lent, frame)?;
+        }
+        let refusal = enter(pair, random, &numbers, &mut lent, frame)?;
+        if refusal == 0 {
+            pair.note("reason", lent.answer[4]);
+            walk(pair, random, &settings, &mut lent, frame)?;
+        }
+        if random.once_in(200) {
+            // The store changes behind the extractor's back.
+            let place = random.within(0, lent.buffer.len().min(9)).saturating_sub(1);
+            if let Some(octet) = lent.buffer.get_mut(place) {
+                *octet = random.octet();
+            }
+        }
+    }
+    Ok(())
+}
+
+/// Steps a frame until it is spent, at times with other calls between.
+fn walk(
+    pair: &mut Pair,
+    random: &mut Random,
+    settings: &Settings,
+    lent: &mut Lent,
+    frame: &[u8],
+) -> Result<(), Difference> {
+    let mut steps = 0;
+    let careful = !random.once_in(6);
+    loop {
+        let numbers = if careful {
+            generate::settings_numbers(settings)
+        } else {
+            some_settings(random, settings)
+        };
+        let mut stepped = frame.to_vec();
+        if !careful && random.once_in(8) {
+            enter(pair, random, &numbers, lent, frame)?;
+        }
+        if !careful && random.once_in(8) {
+            // Another frame than the one entered, at times of another length.
+            stepped = random.octets(settings.frame_length());
+            if random.once_in(4) {
+                stepped.truncate(room(random, settings.frame_length()));
+            }
+            if random.once_in(2) && stepped.len() > HEAD {
+                stepped[HEAD..].fill(random.pick(&[0, 0xE0, 0xE1, 0xFF]));
+            }
+        }
+        let refusal = step(pair, random, &numbers, lent, &stepped)?;
+        steps += 1;
+        if refusal == 0 && lent.answer[0] == 0 {
+            break;
+        }
+        // Only refused steps can make it longer than the zone allows.
+        if steps > settings.zone {
+            let late = format!("not spent within {} steps", settings.zone + 1);
+            if careful && refusal == 0 {
+                let lent = format!("settings {settings:?}");
+                return Err(Difference {
+                    call: "extractor_step",
+                    index: pair.index,
+                    what: late,
+                    lent,
+                });
+            }
+            break;
+        }
+    }
+    Ok(())
+}
+
+fn enter(
+    pair: &mut Pair,
+    random: &mut Random,
+    numbers: &[u64],
+    lent: &mut Lent,
+    frame: &[u8],
+) -> Result<u64, Difference> {
+    lent.answer = answer(random, calls::ENTERED);
+    pair.both("extractor_enter", numbers, frame, lent, |calls, lent| {
+        calls.extractor_enter(numbers, &mut lent.record, &lent.buffer, frame, &mut lent.answer)
+    })
+}
+
+fn step(
+    pair: &mut Pair,
+    random: &mut Random,
+    numbers: &[u64],
+    lent: &mut Lent,
+    frame: &[u8],
+) -> Result<u64, Difference> {
+    lent.answer = answer(random, calls::STEP);
+    let refusal = pair.both("extractor_step", numbers, frame, lent, |calls, lent| {
+        calls.extractor_step(numbers, &mut lent.record, &mut lent.buffer, frame, &mut lent.answer)
+    })?;
+    if refusal == 0 {
+        pair.note("step", lent.answer[0]);
+        pair.note("packet lies in", lent.answer[1]);
+    }
+    Ok(refusal)
+}
+
+fn judging(pair: &mut Pair, random: &mut Random) -> Result<(), Difference> {
+    let settings = generate::settings(random);
+    let frames = some_run(random, &settings);
+    let mut lent = Lent {
+        record: vec![0; calls::JUDGE],
+        buffer: some_store(random, &settings),
+        answer: vec![],
+    };
+    for frame in &frames {
+        let numbers = some_settings(random, &settings);
+        judge(pair, &numbers, &mut lent, frame)?;
+        if random.once_in(3) {
+            close(pair, random, &numbers, &mut lent)?;
+        }
+    }
+    let numbers = generate::settings_numbers(&settings);
+    if close(pair, random, &numbers, &mut lent)? == 0 {
+        pair.note("verdict", lent.answer[0]);
+    }
+    Ok(())
+}
+
+fn judge(
+    pair: &mut Pair,
+    numbers: &[u64],
+    lent: &mut Lent,
+    frame: &[u8],
+) -> Result<u64, Difference> {
+    lent.answer = vec![];
+    pair.both("judge_frame", numbers, frame, lent, |calls, lent| {
+        calls.judge_frame(numbers, &mut lent.record, &mut lent.buffer, frame)
+    })
+}
+
+fn close(
+    pair: &mut Pair,
+    random: &mut Random,
+    numbers: &[u64],
+    lent: &mut Lent,
+) -> Result<u64, Difference> {
+    lent.answer = answer(random, calls::VERDICT);
+    pair.both("judge_close", numbers, &[], lent, |calls, lent| {
+        calls.judge_close(numbers, &lent.record, &lent.buffer, &mut lent.answer)
+    })
+}
+
+fn bits(pair: &mut Pair, random: &mut Random) -> Result<(), Difference> {
+    let width = match random.within(1, 8) {
+        1 => random.pick(&[1, 2, 2_046, 2_047]),
+        2 => random.within(41, 2_047),
+        _ => random.within(1, 40),
+    };
+    let channel = random.within(0, 62) as u64;
+    let settings = [random.octet().into(), channel, width as u64, random.octet().into()];
+    let mut writer = vec![random.any() % u64::from(WHEEL)];
+    if random.once_in(2) {
+        writer[0] = u64::from(WHEEL) - random.within(0, 4) as u64;
+    }
+    let mut reader = match random.within(1, 6) {
+        1 => vec![1, writer[0]],
+        2 => vec![random.any() % 3, random.pick(&[0, 1, u64::from(WHEEL), u64::MAX])],
+        _ => vec![0, 0],
+    };
+    for _ in 0..random.within(1, 12) {
+        let number = match random.within(1, 6) {
+            1 => 0,
+            2 => 8 * width,
+            3 => 8 * width - 1,
+            4 => 8 * width + random.within(0, 2),
+            _ => random.within(0, 8 * width),
+        };
+        let offered = room(random, octets_for(number));
+        let offered = random.octets(offered);
+        let buffer = room(random, width + HEAD);
+        let numbers = if random.once_in(25) {
+            generate::bit_settings_at_an_edge(random, settings)
+        } else {
+            settings
+        };
+        let n = if random.once_in(50) { u64::MAX } else { number as u64 };
+        let mut lent = Lent { record: writer, buffer: random.octets(buffer), answer: vec![] };
+        pair.both("bits_write", &numbers, &offered, &mut lent, |calls, lent| {
+            calls.bits_write(&numbers, &mut lent.record, &offered, n, &mut lent.buffer)
+        })?;
+        writer = lent.record;
+
+        // The frame is read again, at times spoilt, and at times not at all.
+        let mut frame = lent.buffer;
+        frame.truncate(width + HEAD);
+        match random.within(1, 8) {
+            1 => continue,
+            2 => {
+                let place = random.within(0, frame.len().min(HEAD + 1)).saturating_sub(1);
+                if let Some(octet) = frame.get_mut(place) {
+                    *octet ^= 1 << random.within(0, 7);
+                }
+            }
+            3 if frame.len() >= HEAD => {
+                let edge = 8 * width as u64;
+                let pointer = random.pick(&[edge - 2, edge - 1, edge, 16_381, 16_382, 16_383]);
+                frame[6..HEAD].copy_from_slice(&(pointer as u16).to_be_bytes());
+            }
+            4 if random.once_in(3) => frame.push(0),
+            _ => {}
+        }
+        let answer = answer(random, calls::BITS);
+        let mut lent = Lent { record: reader, buffer: vec![], answer };
+        let refusal = pair.both("bits_read", &numbers, &frame, &mut lent, |calls, lent| {
+            calls.bits_read(&numbers, &mut lent.record, &frame, &mut lent.answer)
+        })?;
+        reader = lent.record;
+        if refusal == 0 {
+            pair.note("loss flag", lent.answer[2]);
+        }
+    }
+    Ok(())
+}
+
+/// Single calls on records and stores of any kind, and what follows from them.
+fn any_record(pair: &mut Pair, random: &mut Random) -> Result<(), Difference> {
+    let settings = generate::settings(random);
+    for _ in 0..30 {
+        let numbers = some_settings(random, &settings);
+        let mut store = some_store(random, &settings);
+        let front = generate::front(random, settings.limit);
+        let size = front.len().min(store.len());
+        store[..size].copy_from_slice(&front[..size]);
+        let frames = some_run(random, &settings);
+        let frame = if frames.is_empty() || random.once_in(4) {
+            let mut frame = random.octets(settings.frame_length());
+            frame[..2].copy_from_slice(&[0x40, 0x00]);
+            frame
+        } else {
+            frames[random.within(0, frames.len() - 1)].clone()
+        };
+        match random.within(1, 6) {
+            1 => {
+                let record = generate::mux_record(random, &settings).to_vec();
+                let buffer = random.octets(settings.frame_length());
+                let mut lent = Lent { record, buffer, answer: vec![] };
+                let packet = generate::packet(random, &settings);
+                match random.within(1, 3) {
+                    1 => flush(pair, random, &numbers, &mut lent)?,
+                    2 => idle(pair, &numbers, &mut lent)?,
+                    _ => {
+                        put(pair, random, &numbers, &mut lent, &packet)?;
+                    }
+                }
+            }
+            2 | 3 => {
+                let record = generate::judge_record(random, &settings, store.len()).to_vec();
+                let mut lent = Lent { record, buffer: store, answer: vec![] };
+                close(pair, random, &numbers, &mut lent)?;
+                for _ in 0..random.within(1, 3) {
+                    judge(pair, &numbers, &mut lent, &frame)?;
+                    close(pair, random, &numbers, &mut lent)?;
+                }
+            }
+            _ => {
+                let record = generate::extractor_record(random, &settings, store.len()).to_vec();
+                let mut lent = Lent { record, buffer: store, answer: vec![] };
+                let refusal = if random.once_in(2) {
+                    enter(pair, random, &numbers, &mut lent, &frame)?
+                } else {
+                    step(pair, random, &numbers, &mut lent, &frame)?
+                };
+                if refusal == 0 && matches!(lent.record[0], 3 | 4) {
+                    walk(pair, random, &settings, &mut lent, &frame)?;
+                }
+            }
+        }
+    }
+    Ok(())
+}
+
+/// Every call with one of its arrays of numbers too short, and with all of them
+/// longer than they need be.
+fn short_arrays(pair: &mut Pair, random: &mut Random) -> Result<(), Difference> {
+    let settings = generate::settings(random);
+    let frame = random.octets(settings.frame_length());
+    let packet = generate::packet(random, &settings);
+    let store = random.octets(settings.limit);
+    // An array of these numbers, cut if it is the one in question.
+    let cut = |random: &mut Random, numbers: &[u64], short: bool| {
+        let mut numbers = numbers.to_vec();
+        if short {
+            numbers.truncate(random.within(0, numbers.len() - 1));
+        } else if random.once_in(3) {
+            numbers.extend([JUNK, 0]);
+        }
+        numbers
+    };
+    let channel = generate::settings_numbers(&settings);
+    let bit_settings = [channel[0], channel[1], channel[2], channel[4]];
+    for short in 0..4 {
+        let all = |random: &mut Random, settings: &[u64], record: &[u64], answer: usize| {
+            let settings = cut(random, settings, short == 1);
+            let record = cut(random, record, short == 2);
+            let answer =
+                if answer == 0 { vec![] } else { cut(random, &vec![JUNK; answer], short == 3) };
+            (settings, Lent { record, buffer: vec![], answer })
+        };
+        let limit = settings.limit as u64;
+
+        let (_, mut lent) = all(random, &channel, &[0], calls::HEADER);
+        pair.both("read_header", &[limit], &packet, &mut lent, |calls, lent| {
+            calls.read_header(limit, &packet, &mut lent.answer)
+        })?;
+        let (_, mut lent) = all(random, &channel, &[0], calls::WRAPPED);
+        lent.buffer = frame.clone();
+        pair.both("wrap", &[limit], &[1], &mut lent, |calls, lent| {
+            calls.wrap(limit, 2, 0, &[1], &mut lent.buffer, &mut lent.answer)
+        })?;
+        let (_, mut lent) = all(random, &channel, &[0], calls::UNWRAPPED);
+        pair.both("unwrap", &[limit], &packet, &mut lent, |calls, lent| {
+            calls.unwrap(limit, &packet, &mut lent.answer)
+        })?;
+
+        let (numbers, mut lent) = all(random, &channel, &[0, 0, 2_047, 0], calls::PUT);
+        lent.buffer = frame.clone();
+        pair.both("mux_put", &numbers, &packet, &mut lent, |calls, lent| {
+            calls.mux_put(&numbers, &mut lent.record, &packet, &mut lent.buffer, &mut lent.answer)
+        })?;
+        let (numbers, mut lent) = all(random, &channel, &[0, 0, 2_047, 0], calls::FLUSH);
+        lent.buffer = frame.clone();
+        pair.both("mux_flush", &numbers, &[], &mut lent, |calls, lent| {
+            calls.mux_flush(&numbers, &mut lent.record, &mut lent.buffer, &mut lent.answer)
+        })?;
+        let (numbers, mut lent) = all(random, &channel, &[0, 0, 2_047, 0], 0);
+        lent.buffer = frame.clone();
+        pair.both("mux_idle", &numbers, &[], &mut lent, |calls, lent| {
+            calls.mux_idle(&numbers, &mut lent.record, &mut lent.buffer)
+        })?;
+
+        let (numbers, mut lent) = all(random, &channel, &[0, 0, 0, 0], calls::ENTERED);
+        lent.buffer = store.clone();
+        pair.both("extractor_enter", &numbers, &frame, &mut lent, |calls, lent| {
+            calls.extractor_enter(
+                &numbers,
+                &mut lent.record,
+                &lent.buffer,
+                &frame,
+                &mut lent.answer,
+            )
+        })?;
+        let (numbers, mut lent) = all(random, &channel, &[3, 7, 0, 0], calls::STEP);
+        lent.buffer = store.clone();
+        pair.both("extractor_step", &numbers, &frame, &mut lent, |calls, lent| {
+            calls.extractor_step(
+                &numbers,
+                &mut lent.record,
+                &mut lent.buffer,
+                &frame,
+                &mut lent.answer,
+            )
+        })?;
+
+        let (numbers, mut lent) = all(random, &channel, &[0, 0, 0, 0], 0);
+        lent.buffer = store.clone();
+        pair.both("judge_frame", &numbers, &frame, &mut lent, |calls, lent| {
+            calls.judge_frame(&numbers, &mut lent.record, &mut lent.buffer, &frame)
+        })?;
+        let (numbers, mut lent) = all(random, &channel, &[2, 5, 3, 0], calls::VERDICT);
+        lent.buffer = store.clone();
+        pair.both("judge_close", &numbers, &[], &mut lent, |calls, lent| {
+            calls.judge_close(&numbers, &lent.record, &lent.buffer, &mut lent.answer)
+        })?;
+
+        let (numbers, mut lent) = all(random, &bit_settings, &[9], 0);
+        lent.buffer = frame.clone();
+        pair.both("bits_write", &numbers, &packet, &mut lent, |calls, lent| {
+            calls.bits_write(&numbers, &mut lent.record, &packet, 5, &mut lent.buffer)
+        })?;
+        let (numbers, mut lent) = all(random, &bit_settings, &[0, 0], calls::BITS);
+        pair.both("bits_read", &numbers, &frame, &mut lent, |calls, lent| {
+            calls.bits_read(&numbers, &mut lent.record, &frame, &mut lent.answer)
+        })?;
+    }
+    Ok(())
+}
+
+/// Every call with several of its refusals called for at once.
+fn several_refusals(pair: &mut Pair, random: &mut Random) -> Result<(), Difference> {
+    for order in &ORDERS {
+        for _ in 0..6 {
+            let refusals: Vec<u64> =
+                order.refusals.iter().copied().filter(|_| random.once_in(3)).collect();
+            let Arguments { numbers, record, octets, buffer, answer } =
+                orders::arguments(order.call, &refusals);
+            let mut lent = Lent { record, buffer, answer };
+            pair.both(order.call, &numbers, &octets, &mut lent, |calls, lent| {
+                let Lent { record, buffer, answer } = lent.clone();
+                let (numbers, octets) = (numbers.clone(), octets.clone());
+                let mut arguments = Arguments { numbers, record, octets, buffer, answer };
+                let refusal = orders::make(calls, order.call, &mut arguments);
+                let Arguments { record, buffer, answer, .. } = arguments;
+                *lent = Lent { record, buffer, answer };
+                refusal
+            })?;
+        }
+    }
+    Ok(())
+}

@@ -1,0 +1,347 @@
+//! The comparison itself: it finds no difference where there is none, meets every
+//! refusal, and sees through impostors.
+
+use itzahuemo_reference::calls::{Calls, Reference};
+use itzahuemo_reference::orders::ORDERS;
+use itzahuemo_reference::sessions::{session, Tally};
+
+const SESSIONS: u64 = 3_000;
+
+#[test]
+fn the_reference_agrees_with_itself_and_everything_is_met() {
+    let mut tally = Tally::default();
+    for seed in 0..SESSIONS {
+        match session(&Reference, &Reference, seed) {
+            Ok(met) => tally.add(&met),
+            Err(difference) => panic!("seed {seed}: {difference}"),
+        }
+    }
+    for order in &ORDERS {
+        for &refusal in order.refusals.iter().chain(&[0, 2]) {
+            assert!(
+                tally.refusals.contains_key(&(order.call, refusal)),
+                "{} {refusal}",
+                order.call
+            );
+        }
+    }
+    for (what, numbers) in [
+        ("header found", 0..=2),
+        // A put ends with a full zone or a taken packet, or both.
+        ("full and taken", 1..=3),
+        ("reason", 0..=3),
+        ("step", 0..=3),
+        ("packet lies in", 0..=2),
+        ("verdict", 0..=1),
+        ("loss flag", 0..=1),
+    ] {
+        for number in numbers {
+            assert!(tally.said.contains_key(&(what, number)), "{what} {number}");
+        }
+    }
+    // No call gives a refusal that is not in its order; 2 may be for an array.
+    for (call, refusal) in tally.refusals.keys() {
+        let order = ORDERS.iter().find(|order| order.call == *call).unwrap();
+        assert!([0, 2].contains(refusal) || order.refusals.contains(refusal), "{call} {refusal}");
+    }
+}
+
+/// What a call was lent to write, and the refusal it gave.
+struct Outcome<'a> {
+    call: &'static str,
+    record: &'a mut [u64],
+    buffer: &'a mut [u8],
+    answer: &'a mut [u64],
+    refusal: &'a mut u64,
+}
+
+/// The reference, with its outcomes changed before they are seen. The change is
+/// also given the record and the buffer as they were lent.
+struct Impostor {
+    change: fn(&[u64], &[u8], Outcome),
+}
+
+impl Impostor {
+    fn made(
+        &self,
+        call: &'static str,
+        record: &mut [u64],
+        buffer: &mut [u8],
+        answer: &mut [u64],
+        make: impl FnOnce(&mut [u64], &mut [u8], &mut [u64]) -> u64,
+    ) -> u64 {
+        let (lent_record, lent_buffer) = (record.to_vec(), buffer.to_vec());
+        let mut refusal = make(record, buffer, answer);
+        let outcome = Outcome { call, record, buffer, answer, refusal: &mut refusal };
+        (self.change)(&lent_record, &lent_buffer, outcome);
+        refusal
+    }
+}
+
+impl Calls for Impostor {
+    fn read_header(&self, limit: u64, octets: &[u8], answer: &mut [u64]) -> u64 {
+        self.made("read_header", &mut [], &mut [], answer, |_, _, answer| {
+            Reference.read_header(limit, octets, answer)
+        })
+    }
+
+    fn wrap(
+        &self,
+        limit: u64,
+        protocol: u64,
+        extension: u64,
+        data: &[u8],
+        packet: &mut [u8],
+        answer: &mut [u64],
+    ) -> u64 {
+        self.made("wrap", &mut [], packet, answer, |_, packet, answer| {
+            Reference.wrap(limit, protocol, extension, data, packet, answer)
+        })
+    }
+
+    fn unwrap(&self, limit: u64, packet: &[u8], answer: &mut [u64]) -> u64 {
+        self.made("unwrap", &mut [], &mut [], answer, |_, _, answer| {
+            Reference.unwrap(limit, packet, answer)
+        })
+    }
+
+    fn mux_put(
+        &self,
+        settings: &[u64],
+        record: &mut [u64],
+        packet: &[u8],
+        frame: &mut [u8],
+        answer: &mut [u64],
+    ) -> u64 {
+        self.made("mux_put", record, frame, answer, |record, frame, answer| {
+            Reference.mux_put(settings, record, packet, frame, answer)
+        })
+    }
+
+    fn mux_flush(
+        &self,
+        settings: &[u64],
+        record: &mut [u64],
+        frame: &mut [u8],
+        answer: &mut [u64],
+    ) -> u64 {
+        self.made("mux_flush", record, frame, answer, |record, frame, answer| {
+            Reference.mux_flush(settings, record, frame, answer)
+        })
+    }
+
+    fn mux_idle(&self, settings: &[u64], record: &mut [u64], frame: &mut [u8]) -> u64 {
+        self.made("mux_idle", record, frame, &mut [], |record, frame, _| {
+            Reference.mux_idle(settings, record, frame)
+        })
+    }
+
+    fn extractor_enter(
+        &self,
+        settings: &[u64],
+        record: &mut [u64],
+        store: &[u8],
+        frame: &[u8],
+        answer: &mut [u64],
+    ) -> u64 {
+        self.made("extractor_enter", record, &mut [], answer, |record, _, answer| {
+            Reference.extractor_enter(settings, record, store, frame, answer)
+        })
+    }
+
+    fn extractor_step(
+        &self,
+        settings: &[u64],
+        record: &mut [u64],
+        store: &mut [u8],
+        frame: &[u8],
+        answer: &mut [u64],
+    ) -> u64 {
+        self.made("extractor_step", record, store, answer, |record, store, answer| {
+            Reference.extractor_step(settings, record, store, frame, answer)
+        })
+    }
+
+    fn judge_frame(
+        &self,
+        settings: &[u64],
+        record: &mut [u64],
+        store: &mut [u8],
+        frame: &[u8],
+    ) -> u64 {
+        self.made("judge_frame", record, store, &mut [], |record, store, _| {
+            Reference.judge_frame(settings, record, store, frame)
+        })
+    }
+
+    fn judge_close(
+        &self,
+        settings: &[u64],
+        record: &[u64],
+        store: &[u8],
+        answer: &mut [u64],
+    ) -> u64 {
+        self.made("judge_close", &mut [], &mut [], answer, |_, _, answer| {
+            Reference.judge_close(settings, record, store, answer)
+        })
+    }
+
+    fn bits_write(
+        &self,
+        settings: &[u64],
+        record: &mut [u64],
+        bits: &[u8],
+        number: u64,
+        frame: &mut [u8],
+    ) -> u64 {
+        self.made("bits_write", record, frame, &mut [], |record, frame, _| {
+            Reference.bits_write(settings, record, bits, number, frame)
+        })
+    }
+
+    fn bits_read(
+        &self,
+        settings: &[u64],
+        record: &mut [u64],
+        frame: &[u8],
+        answer: &mut [u64],
+    ) -> u64 {
+        self.made("bits_read", record, &mut [], answer, |record, _, answer| {
+            Reference.bits_read(settings, record, frame, answer)
+        })
+    }
+}
+
+/// The call in which the comparison first sees through an impostor.
+fn seen(change: fn(&[u64], &[u8], Outcome)) -> &'static str {
+    let impostor = Impostor { change };
+    (0..SESSIONS)
+        .find_map(|seed| session(&Reference, &impostor, seed).err())
+        .map_or("never", |difference| difference.call)
+}
+
+#[test]
+fn an_impostor_that_changes_nothing_is_not_seen() {
+    assert_eq!(seen(|_, _, _| {}), "never");
+}
+
+#[test]
+fn an_extractor_that_refuses_all_frames() {
+    let call = seen(|lent, _, outcome| {
+        if outcome.call == "extractor_enter" && *outcome.refusal == 0 {
+            *outcome.refusal = 7;
+            outcome.record[..4].copy_from_slice(&lent[..4]);
+            outcome.answer[..5].fill(0);
+        }
+    });
+    assert_eq!(call, "extractor_enter");
+}
+
+#[test]
+fn an_extractor_that_calls_each_frame_spent() {
+    let call = seen(|lent, _, outcome| {
+        if outcome.call == "extractor_step" && *outcome.refusal == 0 {
+            outcome.answer[..4].fill(0);
+            outcome.record[..4].copy_from_slice(&[1, lent[1], 0, 0]);
+        }
+    });
+    assert_eq!(call, "extractor_step");
+}
+
+#[test]
+fn an_extractor_that_invents_its_lost_number() {
+    let call = seen(|_, _, outcome| {
+        if outcome.call == "extractor_enter"
+            && outcome.answer.get(2).map_or(false, |&lost| lost > 1)
+        {
+            outcome.answer[2] -= 1;
+        }
+    });
+    assert_eq!(call, "extractor_enter");
+}
+
+#[test]
+fn an_extractor_that_never_says_what_it_dropped() {
+    let call = seen(|_, _, outcome| {
+        if outcome.call == "extractor_enter" && *outcome.refusal == 0 {
+            outcome.answer[3] = 0;
+        }
+    });
+    assert_eq!(call, "extractor_enter");
+}
+
+#[test]
+fn an_extractor_that_writes_past_the_packet_in_the_store() {
+    let call = seen(|_, lent, outcome| {
+        if outcome.call == "extractor_step" && *outcome.refusal == 0 && outcome.answer[1] == 2 {
+            let size = outcome.answer[3] as usize;
+            if size < lent.len() {
+                outcome.buffer[size] = !lent[size];
+            }
+        }
+    });
+    assert_eq!(call, "extractor_step");
+}
+
+#[test]
+fn a_judge_that_always_passes() {
+    let call = seen(|_, _, outcome| {
+        if outcome.call == "judge_close" && *outcome.refusal == 0 {
+            outcome.answer[..2].fill(0);
+        }
+    });
+    assert_eq!(call, "judge_close");
+}
+
+#[test]
+fn a_judge_that_always_faults() {
+    let call = seen(|_, _, outcome| {
+        if outcome.call == "judge_frame" && outcome.record.first() == Some(&1) {
+            let tally = outcome.record[1];
+            outcome.record[..4].copy_from_slice(&[2, tally, tally - 1, 0]);
+        }
+    });
+    assert_eq!(call, "judge_frame");
+}
+
+#[test]
+fn a_multiplexer_that_writes_nothing() {
+    let call = seen(|_, lent, outcome| {
+        if outcome.call == "mux_put" {
+            outcome.buffer.copy_from_slice(lent);
+        }
+    });
+    assert_eq!(call, "mux_put");
+}
+
+#[test]
+fn a_multiplexer_that_counts_past_the_wheel() {
+    let call = seen(|lent, _, outcome| {
+        if outcome.call == "mux_flush"
+            && outcome.record.first().map_or(false, |count| *count < lent[0])
+        {
+            outcome.record[0] = lent[0] + 1;
+        }
+    });
+    assert_eq!(call, "mux_flush");
+}
+
+#[test]
+fn a_refusal_that_leaves_its_answer() {
+    let call = seen(|_, _, outcome| {
+        if outcome.call == "unwrap" && *outcome.refusal == 6 {
+            outcome.answer[0] = 2;
+        }
+    });
+    assert_eq!(call, "unwrap");
+}
+
+#[test]
+fn a_reader_of_bits_that_never_sees_a_loss() {
+    let call = seen(|_, _, outcome| {
+        if outcome.call == "bits_read" && outcome.answer.len() >= 6 && *outcome.refusal == 0 {
+            outcome.answer[2] = 0;
+        }
+    });
+    assert_eq!(call, "bits_read");
+}

@@ -1,0 +1,341 @@
+//! Whole frames and whole runs, read a second way.
+//!
+//! Here document 01's rules are taken over lists of octets, a frame at a time and
+//! a run at a time, with no record, store or walk; and the reference is held
+//! against them.
+
+use itzahuemo_reference::generate;
+use itzahuemo_reference::random::Random;
+use itzahuemo_reference::reference::extractor::{self, Step};
+use itzahuemo_reference::reference::frame::Settings;
+use itzahuemo_reference::reference::judge::{self, Verdict};
+
+/// What the front of some octets is: the total length that a whole header states,
+/// nothing yet, or damage.
+#[derive(PartialEq)]
+enum Front {
+    Total(usize),
+    Nothing,
+    Damage,
+}
+
+fn number(octets: &[u8]) -> usize {
+    octets.iter().fold(0, |number, &octet| number * 256 + usize::from(octet))
+}
+
+fn front(limit: usize, octets: &[u8]) -> Front {
+    let (header, places, add) = match octets.first() {
+        None => return Front::Nothing,
+        Some(0x00..=0x1F) => (6, 4..6, 7),
+        Some(0xE0) => (1, 0..0, 1),
+        Some(first @ 0xE0..=0xFF) if first % 4 == 1 => (2, 1..2, 0),
+        Some(first @ 0xE0..=0xFF) if first % 4 == 2 => (4, 2..4, 0),
+        Some(first @ 0xE0..=0xFF) if first % 4 == 3 => (8, 4..8, 0),
+        Some(_) => return Front::Damage,
+    };
+    if octets.len() < header {
+        return Front::Nothing;
+    }
+    let total = number(&octets[places]) + add;
+    if total < header || total > limit {
+        Front::Damage
+    } else {
+        Front::Total(total)
+    }
+}
+
+fn is_idle(packet: &[u8]) -> bool {
+    if packet[0] < 0x20 {
+        number(&packet[..2]) % 2_048 == 2_047
+    } else {
+        let protocol = packet[0] / 4 % 8;
+        protocol == 0
+    }
+}
+
+/// Document 01's refusals 3 to 7, or the count, the replay flag and the pointer.
+fn header(settings: &Settings, frame: &[u8]) -> Result<(usize, bool, usize), u64> {
+    if frame.len() != settings.zone + 8 {
+        return Err(3);
+    }
+    if frame[0] / 64 != 1 {
+        return Err(4);
+    }
+    let name = number(&frame[..2]) % 16_384;
+    if name != usize::from(settings.spacecraft) * 64 + usize::from(settings.channel) {
+        return Err(5);
+    }
+    let spare = frame[5] % 128;
+    let pointer = number(&frame[6..8]);
+    if spare > 0 || pointer >= 2_048 {
+        return Err(6);
+    }
+    if pointer >= settings.zone && pointer <= 2_045 {
+        return Err(7);
+    }
+    Ok((number(&frame[2..5]), frame[5] >= 128, pointer))
+}
+
+/// What is said of a packet, with its octets.
+#[derive(Clone, Debug, PartialEq)]
+enum Event {
+    Packet(Vec<u8>),
+    Idle(Vec<u8>),
+    Damaged,
+}
+
+/// What is said of a frame: refusal; or count, replay, lost, dropped, reason and
+/// the events.
+type Said = Result<(usize, bool, usize, usize, u64, Vec<Event>), u64>;
+
+/// The rules' state: the last count, and the held octets if in step.
+#[derive(Clone, Debug, Default, PartialEq)]
+struct State {
+    last: Option<usize>,
+    held: Option<Vec<u8>>,
+}
+
+fn said_of(settings: &Settings, state: &mut State, frame: &[u8]) -> Said {
+    let (count, replay, pointer) = header(settings, frame)?;
+    let zone = &frame[8..];
+    let wheel = 16_777_216;
+    let lost = state.last.map_or(0, |last| (count + 2 * wheel - last - 1) % wheel);
+    state.last = Some(count);
+
+    let mut reason = 0;
+    let mut octets = state.held.take();
+    if lost != 0 {
+        reason = 1;
+    } else if let Some(held) = &octets {
+        let both = [held, zone].concat();
+        let agreed = match front(settings.limit, &both) {
+            _ if held.is_empty() => pointer == 0 || pointer == 2_046,
+            Front::Damage => {
+                reason = 3;
+                true
+            }
+            Front::Total(total) if total - held.len() < zone.len() => pointer == total - held.len(),
+            Front::Total(_) | Front::Nothing => pointer == 2_047,
+        };
+        if !agreed {
+            reason = 2;
+        }
+    }
+    let dropped = if reason == 0 { 0 } else { octets.take().map_or(0, |held| held.len()) };
+
+    // The octets to be cut into packets; none if the frame has nothing to say.
+    let rest = match octets {
+        _ if pointer == 2_046 => Some(vec![]),
+        Some(held) => Some([&held, zone].concat()),
+        None if pointer == 2_047 => None,
+        None => Some(zone[pointer..].to_vec()),
+    };
+    let mut events = Vec::new();
+    if let Some(mut rest) = rest {
+        loop {
+            match front(settings.limit, &rest) {
+                Front::Damage => {
+                    events.push(Event::Damaged);
+                    break;
+                }
+                Front::Total(total) if total <= rest.len() => {
+                    let after = rest.split_off(total);
+                    let idle = is_idle(&rest);
+                    events.push(if idle { Event::Idle(rest) } else { Event::Packet(rest) });
+                    rest = after;
+                }
+                Front::Total(_) | Front::Nothing => {
+                    state.held = Some(rest);
+                    break;
+                }
+            }
+        }
+    }
+    Ok((count, replay, lost, dropped, reason, events))
+}
+
+/// The same from the reference's enter, steps and show.
+fn heard(
+    settings: &Settings,
+    record: &mut extractor::Record,
+    store: &mut [u8],
+    frame: &[u8],
+) -> Said {
+    let entered = extractor::enter(settings, record, store, frame).map_err(|no| no.number())?;
+    let mut events = Vec::new();
+    for _ in 0..=settings.zone {
+        match extractor::step(settings, record, store, frame).map_err(|no| no.number())? {
+            Step::Spent => {
+                let extractor::Entered { count, replay, lost, dropped, reason } = entered;
+                let reason = reason as u64;
+                return Ok((count as usize, replay, lost as usize, dropped, reason, events));
+            }
+            Step::Damaged => events.push(Event::Damaged),
+            Step::Packet { kind, part } => {
+                let shown = extractor::show(part, store, frame).to_vec();
+                let idle = kind.is_idle();
+                events.push(if idle { Event::Idle(shown) } else { Event::Packet(shown) });
+            }
+        }
+    }
+    panic!("a frame is spent within Z+1 steps");
+}
+
+/// The packets that a run carries, if it conforms: the octets of its zones that
+/// are not idle, cut into packets, with every pointer and idle zone in its place.
+fn carried(settings: &Settings, frames: &[Vec<u8>]) -> Option<Vec<Vec<u8>>> {
+    let heads: Vec<_> =
+        frames.iter().map(|frame| header(settings, frame).ok()).collect::<Option<_>>()?;
+    let rising = heads.windows(2).all(|two| two[1].0 == (two[0].0 + 1) % 16_777_216);
+    if !rising {
+        return None;
+    }
+    let laid = || frames.iter().zip(&heads).filter(|(_, head)| head.2 != 2_046);
+    let octets: Vec<u8> = laid().flat_map(|(frame, _)| frame[8..].to_vec()).collect();
+
+    let (mut packets, mut starts) = (Vec::new(), vec![]);
+    let mut place = 0;
+    while place < octets.len() {
+        let total = match front(settings.limit, &octets[place..]) {
+            Front::Total(total) => total,
+            Front::Nothing | Front::Damage => return None,
+        };
+        packets.push(octets.get(place..place + total)?.to_vec());
+        starts.push(place);
+        place += total;
+    }
+    for (index, (_, head)) in laid().enumerate() {
+        let from = index * settings.zone;
+        let first = starts.iter().find(|&&start| start >= from && start < from + settings.zone);
+        if head.2 != first.map_or(2_047, |start| start - from) {
+            return None;
+        }
+    }
+    let mut place = 0;
+    for head in &heads {
+        if head.2 != 2_046 {
+            place += settings.zone;
+        } else if !starts.contains(&place) && place != octets.len() {
+            return None;
+        }
+    }
+    Some(packets)
+}
+
+/// The index of the first frame that cannot go on a run, as the rules of the
+/// extractor have it for one that began in step.
+fn first_fault(settings: &Settings, frames: &[Vec<u8>]) -> Option<usize> {
+    let mut state = State { last: None, held: Some(vec![]) };
+    for (index, frame) in frames.iter().enumerate() {
+        match said_of(settings, &mut state, frame) {
+            Ok((.., 0, 0, 0, events)) if !events.contains(&Event::Damaged) => {}
+            _ => return Some(index),
+        }
+    }
+    state.held.map_or(false, |held| !held.is_empty()).then_some(frames.len())
+}
+
+fn verdict(settings: &Settings, frames: &[Vec<u8>]) -> Verdict {
+    let mut record = judge::Record::Open;
+    let mut store = vec![0; settings.limit];
+    for frame in frames {
+        judge::frame(settings, &mut record, &mut store, frame).unwrap();
+    }
+    judge::close(settings, &record, &store).unwrap()
+}
+
+/// Runs, as they conform and spoilt in up to three ways.
+fn for_many_runs(mut look: impl FnMut(&Settings, &[Vec<u8>])) {
+    for seed in 0..3_000 {
+        let mut random = Random::new(0x5EED_0000 + seed);
+        let settings = generate::settings(&mut random);
+        let mut frames = generate::run(&mut random, &settings, true).frames;
+        look(&settings, &frames);
+        for _ in 0..3 {
+            generate::spoil(&mut random, &settings, &mut frames);
+            look(&settings, &frames);
+        }
+    }
+}
+
+/// Each event of the extractor is the one that the rules give.
+#[test]
+fn events_are_those_of_the_rules() {
+    let mut reasons = [0; 4];
+    for_many_runs(|settings, frames| {
+        let mut state = State::default();
+        let mut record = extractor::Record::Fresh;
+        let mut store = vec![0; settings.limit];
+        for frame in frames {
+            let before = (record, store.clone());
+            let rules = said_of(settings, &mut state, frame);
+            let reference = heard(settings, &mut record, &mut store, frame);
+            assert_eq!(rules, reference, "{settings:?} {before:x?} {frame:x?}");
+            let stands = match record {
+                extractor::Record::Fresh => State::default(),
+                extractor::Record::OutOfStep { last } => {
+                    State { last: Some(last as usize), held: None }
+                }
+                extractor::Record::InStep { last, held } => {
+                    State { last: Some(last as usize), held: Some(store[..held].to_vec()) }
+                }
+                _ => panic!("a frame that is not spent"),
+            };
+            assert_eq!(state, stands);
+            match rules {
+                Ok((.., reason, _)) => reasons[reason as usize] += 1,
+                Err(_) => assert_eq!(before, (record, store.clone())),
+            }
+        }
+    });
+    assert!(reasons.iter().all(|&times| times > 100), "{reasons:?}");
+}
+
+/// The judge passes exactly the runs that carry some list of packets, and a fresh
+/// extractor then hands over that list.
+#[test]
+fn the_judge_passes_what_carries_packets() {
+    let mut verdicts = [0; 2];
+    for_many_runs(|settings, frames| {
+        let packets = carried(settings, frames);
+        let fault = first_fault(settings, frames);
+        let expected = fault.map_or(Verdict::Pass, |index| Verdict::Fault(index as u32));
+        assert_eq!(verdict(settings, frames), expected, "{settings:?} {frames:x?}");
+        assert_eq!(packets.is_some(), fault.is_none(), "{settings:?} {frames:x?}");
+        verdicts[usize::from(packets.is_some())] += 1;
+        if let Some(packets) = packets {
+            let mut state = State::default();
+            let events =
+                frames.iter().flat_map(|frame| said_of(settings, &mut state, frame).unwrap().5);
+            let handed: Vec<Vec<u8>> = events
+                .map(|event| match event {
+                    Event::Packet(packet) => packet,
+                    Event::Idle(packet) => packet,
+                    Event::Damaged => panic!("damage in a run that passed"),
+                })
+                .collect();
+            assert_eq!(handed, packets);
+        }
+    });
+    assert!(verdicts.iter().all(|&times| times > 500), "{verdicts:?}");
+}
+
+/// What is multiplexed and closed by a flush is carried, for every small zone.
+#[test]
+fn multiplexed_packets_are_carried() {
+    for zone in (1..=40).chain([255, 256, 1_000, 2_045, 2_046]) {
+        for seed in 0..20 {
+            let mut random = Random::new(seed);
+            let limit = match seed % 4 {
+                0 => zone.max(7),
+                1 => zone.max(7) + random.within(0, 30),
+                2 => 65_542,
+                _ => random.within(zone.max(7), 2_500),
+            };
+            let settings = Settings { zone, limit, ..generate::settings(&mut random) };
+            let run = generate::run(&mut random, &settings, false);
+            assert_eq!(carried(&settings, &run.frames), Some(run.packets));
+            assert_eq!(verdict(&settings, &run.frames), Verdict::Pass);
+        }
+    }
+}
