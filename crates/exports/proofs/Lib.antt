@@ -3,3 +3,4 @@ mod Muxes
 mod Extractors
 mod Judges
 mod Bitstreams
+pub mod Theorems

@@ -5,3 +5,4 @@ pub mod Mux
 pub mod Extract
 pub mod Judging
 pub mod Bits
+pub mod Statements

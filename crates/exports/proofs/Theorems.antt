@@ -1,0 +1,69 @@
+-- The statements of `specs/Statements.antt`.
+-- Assumes nothing.
+use mathlib.Core.Path.{_≡_, refl, sym, ap, _∙_}
+use mathlib.Core.List.{List, [], _∷_}
+use Prim.Native.Nat.{ℕ, _+_, _≤_, min}
+use native.Mathlib.Omega.{arith}
+use lib.ListN.{length}
+use Rattle.octets.specs.Basics.{over}
+use Rattle.octets.proofs.Written.{laid-within}
+use Rattle.multiplexer.specs.declared.Mux.{Mux}
+use Rattle.extractor.specs.declared.Extractor.{Extractor}
+use Rattle.extractor.specs.declared.Extractor.the-variants.{Fresh, Astray, InStep, Walking, Leaving}
+use Rattle.judge.specs.declared.Judge.{Judge}
+use Rattle.judge.specs.declared.Judge.the-variants.{Open, Sound, Faulty}
+use Rattle.bitstream.specs.declared.Writer.{Writer}
+use Rattle.bitstream.specs.declared.Reader.{Reader}
+use Rattle.bitstream.specs.declared.Reader.the-variants as reader
+use Rattle.exports.specs.Left.{Left, told}
+use Rattle.exports.specs.Mux.{mux-of, mux-numbers}
+use Rattle.exports.specs.Extract.{extractor-with, extractor-of, extractor-numbers}
+use Rattle.exports.specs.Judging.{judge-with, judge-of, judge-numbers}
+use Rattle.exports.specs.Bits.{writer-of, reader-with, reader-of, reader-numbers}
+use Rattle.exports.specs.Statements.{Determined, Word, ExtractorWords, JudgeWords, ReaderWords, StatedAgain}
+
+same-parts : {x y : Left} → x ≡ y → ((x .refusal ≡ y .refusal) × (x .numbers ≡ y .numbers)) × ((x .octets ≡ y .octets) × (x .answer ≡ y .answer))
+same-parts e = (
+  (ap (λ (l : Left). l .refusal) e, ap (λ (l : Left). l .numbers) e),
+  (ap (λ (l : Left). l .octets) e, ap (λ (l : Left). l .answer) e),
+)
+
+pub determined : Determined
+determined = record { same = λ e f. same-parts (e ∙ sym f) }
+
+uncut : {n : ℕ} → Word n → min n 4294967295 ≡ n
+uncut h = omega arith
+
+module _ (array : List ℕ) where
+  laid-there : (numbers : List ℕ) → length numbers ≤ length array → told array numbers ≡ over array 0 numbers
+  laid-there numbers h = laid-within array 0 numbers (omega arith)
+
+  mux-again : (m : Mux) → 4 ≤ length array → Word (m .count) → mux-of (told array (mux-numbers m)) ≡ m
+  unfolding mux-of mux-numbers over
+  mux-again m h w = rw (laid-there (m .count ∷ m .filled ∷ m .first ∷ m .taken ∷ []) h, uncut w) refl
+
+  extractor-again : (x : Extractor) → 4 ≤ length array → ExtractorWords x → extractor-of (told array (extractor-numbers x)) ≡ x
+  unfolding extractor-with extractor-numbers over
+  extractor-again Fresh h w = rw (laid-there (0 ∷ 0 ∷ 0 ∷ 0 ∷ []) h) refl
+  extractor-again (Astray last) h w = rw (laid-there (1 ∷ last ∷ 0 ∷ 0 ∷ []) h, uncut w) refl
+  extractor-again (InStep last held) h w = rw (laid-there (2 ∷ last ∷ held ∷ 0 ∷ []) h, uncut w) refl
+  extractor-again (Walking last held at) h w = rw (laid-there (3 ∷ last ∷ held ∷ at ∷ []) h, uncut w) refl
+  extractor-again (Leaving last) h w = rw (laid-there (4 ∷ last ∷ 0 ∷ 0 ∷ []) h, uncut w) refl
+
+  judge-again : (j : Judge) → 4 ≤ length array → JudgeWords j → judge-of (told array (judge-numbers j)) ≡ j
+  unfolding judge-with judge-numbers over
+  judge-again Open h w = rw (laid-there (0 ∷ 0 ∷ 0 ∷ 0 ∷ []) h) refl
+  judge-again (Sound tally last held) h w = rw (laid-there (1 ∷ tally ∷ last ∷ held ∷ []) h, uncut (w .0), uncut (w .1)) refl
+  judge-again (Faulty tally at) h w = rw (laid-there (2 ∷ tally ∷ at ∷ 0 ∷ []) h, uncut (w .0), uncut (w .1)) refl
+
+  writer-again : (w : Writer) → 1 ≤ length array → Word (w .count) → writer-of (told array (w .count ∷ [])) ≡ w
+  unfolding writer-of over
+  writer-again w h k = rw (laid-there (w .count ∷ []) h, uncut k) refl
+
+  reader-again : (x : Reader) → 2 ≤ length array → ReaderWords x → reader-of (told array (reader-numbers x)) ≡ x
+  unfolding reader-with reader-numbers over
+  reader-again reader.Fresh h w = rw (laid-there (0 ∷ 0 ∷ []) h) refl
+  reader-again (reader.Last count) h w = rw (laid-there (1 ∷ count ∷ []) h, uncut w) refl
+
+  pub stated-again : StatedAgain array
+  stated-again = record { mux = mux-again; extractor = extractor-again; judge = judge-again; writer = writer-again; reader = reader-again }

@@ -1,0 +1,51 @@
+-- What is shown of the C interface besides each call's promise.
+use mathlib.Core.Path.{_≡_}
+use Prim.Native.Nat.{ℕ, _≤_}
+use mathlib.Core.List.{List, [], _∷_}
+use lib.ListN.{length}
+use Rattle.multiplexer.specs.declared.Mux.{Mux}
+use Rattle.extractor.specs.declared.Extractor.{Extractor}
+use Rattle.extractor.specs.declared.Extractor.the-variants.{Fresh, Astray, InStep, Walking, Leaving}
+use Rattle.judge.specs.declared.Judge.{Judge}
+use Rattle.judge.specs.declared.Judge.the-variants.{Open, Sound, Faulty}
+use Rattle.bitstream.specs.declared.Writer.{Writer}
+use Rattle.bitstream.specs.declared.Reader.{Reader}
+use Rattle.bitstream.specs.declared.Reader.the-variants as reader
+use Rattle.exports.specs.Left.{Left, left, told}
+use Rattle.exports.specs.Mux.{mux-of, mux-numbers}
+use Rattle.exports.specs.Extract.{extractor-of, extractor-numbers}
+use Rattle.exports.specs.Judging.{judge-of, judge-numbers}
+use Rattle.exports.specs.Bits.{writer-of, reader-of, reader-numbers}
+
+-- a promise says what `left` is: two outcomes that meet it are the same
+pub record Determined : Type 0 where
+  pub same : {r r′ : ℕ} {n n′ o o′ a a′ : List ℕ} {x : Left} → left r n o a ≡ x → left r′ n′ o′ a′ ≡ x
+      → ((r ≡ r′) × (n ≡ n′)) × ((o ≡ o′) × (a ≡ a′))
+
+-- a number of 32 bits, as each count of a record is
+abbrev pub Word : ℕ → Type 0
+Word n = n ≤ 4294967295
+
+abbrev pub ExtractorWords : Extractor → Type 0
+ExtractorWords Fresh = Unit {0}
+ExtractorWords (Astray last) = Word last
+ExtractorWords (InStep last held) = Word last
+ExtractorWords (Walking last held at) = Word last
+ExtractorWords (Leaving last) = Word last
+
+abbrev pub JudgeWords : Judge → Type 0
+JudgeWords Open = Unit {0}
+JudgeWords (Sound tally last held) = Word tally × Word last
+JudgeWords (Faulty tally at) = Word tally × Word at
+
+abbrev pub ReaderWords : Reader → Type 0
+ReaderWords reader.Fresh = Unit {0}
+ReaderWords (reader.Last count) = Word count
+
+-- what is laid into a record's array states the record again: a call goes on from what the one before it left
+pub record StatedAgain (array : List ℕ) : Type 0 where
+  pub mux : (m : Mux) → 4 ≤ length array → Word (m .count) → mux-of (told array (mux-numbers m)) ≡ m
+  pub extractor : (x : Extractor) → 4 ≤ length array → ExtractorWords x → extractor-of (told array (extractor-numbers x)) ≡ x
+  pub judge : (j : Judge) → 4 ≤ length array → JudgeWords j → judge-of (told array (judge-numbers j)) ≡ j
+  pub writer : (w : Writer) → 1 ≤ length array → Word (w .count) → writer-of (told array (w .count ∷ [])) ≡ w
+  pub reader : (x : Reader) → 2 ≤ length array → ReaderWords x → reader-of (told array (reader-numbers x)) ≡ x
