@@ -3,6 +3,7 @@ pub mod CarefulPuts
 pub mod CarefulRuns
 pub mod Carrying
 pub mod Demand1
+pub mod Demand2
 pub mod Demand3
 pub mod Finding
 pub mod FirstStarts

@@ -1,6 +1,7 @@
 pub mod Careful
 pub mod Carries
 pub mod Demand1
+pub mod Demand2
 pub mod Demand2List
 pub mod Demand3
 pub mod Promises

@@ -1,0 +1,29 @@
+-- Demand 2 holds: its parts are the crates' own laws.
+-- Assumes nothing.
+use Rattle.octets.proofs.Fields.{placed-read, placed-below, placed-above}
+use Rattle.packets.proofs.Rounds.{round-trip}
+use Rattle.packets.proofs.Spaces.{space-written-read, space-read-written}
+use Rattle.frames.proofs.Settled.{settled}
+use Rattle.frames.proofs.ReadBack.{count-read, pointer-read, frame-again}
+use Rattle.bitstream.proofs.ReadBack.{read-back, has-bits}
+use Rattle.extractor.proofs.Theorems.{says-the-rules}
+use Rattle.demands.specs.Demand2.{Demand2}
+use Rattle.demands.proofs.CarefulRuns.{run-delivers, list-carried}
+use Rattle.demands.proofs.RoundTrips.{orders-handed-over, list-handed-over}
+
+pub demand-2 : Demand2
+demand-2 = record {
+  fields = record { read = placed-read; below = placed-below; above = placed-above };
+  headers-read = record {
+    count-back = λ s c p f ok wheel short headed. count-read s (settled s ok) c p wheel short f headed;
+    pointer-back = λ s c p f ok wheel short headed. pointer-read s (settled s ok) c p wheel short f headed;
+    again = frame-again;
+  };
+  packets-read = record { wrapped = round-trip; space = space-written-read; space-again = space-read-written };
+  bits-read = record { written-read = read-back; read-has = λ s x f o done. has-bits s x f o done };
+  orders = run-delivers;
+  orders-back = orders-handed-over;
+  list = list-carried;
+  list-back = list-handed-over;
+  events = says-the-rules;
+}

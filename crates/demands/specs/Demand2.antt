@@ -1,0 +1,69 @@
+-- Demand 2: what is written means what document 01 says when it is read, the list, and the events.
+use Prim.Native.Nat.{ℕ, _+_, _%_, _^_, _≤_, _<_}
+use mathlib.Core.Path.{_≡_}
+use mathlib.Core.List.{List, _++_}
+use mathlib.Core.Bool.{true}
+use lib.ListN.{length, take}
+use Rattle.octets.specs.Basics.{field, placed, first}
+use Rattle.octets.proofs.Numbers.{Octets}
+use Rattle.packets.specs.Wrap.{wrapped-total, wrap-rows}
+use Rattle.packets.specs.Wrap as packets
+use Rattle.packets.specs.Space.{space-rows, space-reading, space-writing}
+use Rattle.packets.specs.declared.space.SpaceHeader.{SpaceHeader}
+use Rattle.frames.specs.Link.{headers}
+use Rattle.frames.specs.Frame.{in-range, frame-rows, zone-of, count, replay, pointer, pointer-word, head}
+use Rattle.frames.specs.declared.Settings.{Settings}
+use Rattle.frames.specs.BitFrame.{bit-frame-length}
+use Rattle.frames.specs.declared.bits.BitSettings.{BitSettings}
+use Rattle.bitstream.specs.Bitstream.{written, reader-reachable, reading}
+use Rattle.bitstream.specs.Statements.{ReadBack, HasBits}
+use Rattle.bitstream.specs.declared.Writer.{Writer}
+use Rattle.bitstream.specs.declared.Reader.{Reader}
+use Rattle.extractor.specs.Statements.{SaysTheRules}
+use Rattle.demands.specs.Demand2List.{OrdersCarried, ListCarried}
+use Rattle.demands.specs.RoundTrip.{OrdersHandedOver, ListHandedOver}
+
+-- fields, once for any place and width of a word: what is put in is read back there, and every field below or above it stays
+pub record Fields : Type 0 where
+  pub read : (word place width value : ℕ) → word < 2 ^ 64 → place + width ≤ 64
+      → field (placed word place width value) place width ≡ value % 2 ^ width
+  pub below : (word place width value : ℕ) → word < 2 ^ 64 → place + width ≤ 64 → (other size : ℕ) → other + size ≤ place
+      → field (placed word place width value) other size ≡ field word other size
+  pub above : (word place width value : ℕ) → word < 2 ^ 64 → place + width ≤ 64 → (other size : ℕ) → place + width ≤ other
+      → field (placed word place width value) other size ≡ field word other size
+
+-- a frame's header that is written is read back, and a frame that is not refused is its header, written again, and its zone
+pub record Headers : Type 0 where
+  pub count-back : (s : Settings) (c p : ℕ) (f : List ℕ) → in-range s ≡ true → c < 2 ^ 24 → p < 2 ^ 11 → take 8 f ≡ head s c p → count s f ≡ c
+  pub pointer-back : (s : Settings) (c p : ℕ) (f : List ℕ) → in-range s ≡ true → c < 2 ^ 24 → p < 2 ^ 11 → take 8 f ≡ head s c p
+      → pointer s f ≡ p
+  pub again : (s : Settings) (f : List ℕ) → in-range s ≡ true → Octets f → first (frame-rows s f) ≡ 0
+      → f ≡ headers (s .link) (count s f) (replay s f) (pointer-word (pointer s f)) ++ zone-of s f
+
+-- a data unit that is wrapped, and a space packet's header that is written, are read back; and that header the other way round
+pub record Packets : Type 0 where
+  pub wrapped : (limit protocol extension : ℕ) (unit output : List ℕ)
+      → first (wrap-rows limit protocol extension (length unit) (wrapped-total protocol (length unit)) (length output)) ≡ 0
+      → packets.RoundTrip limit protocol extension unit output
+  pub space : (h : SpaceHeader) (output : List ℕ) → first (space-rows h (length output)) ≡ 0
+      → space-reading (space-writing h output .output) ≡ record { accepted = true; refusal = 0; header = h }
+  pub space-again : (os : List ℕ) → Octets os → 6 ≤ length os → space-writing (space-reading os .header) os ≡ record { refusal = 0; output = os }
+
+-- bits that are written are read back, and a frame that is read has its bits where the promise says
+pub record Bits : Type 0 where
+  pub written-read : (s : BitSettings) (w : Writer) (bits : List ℕ) (n : ℕ) (buffer : List ℕ) → written s w bits n buffer .said .refusal ≡ 0
+      → Octets bits → (x : Reader) → reader-reachable s x ≡ true
+      → ReadBack s x (w .count) n bits (take (bit-frame-length s) (written s w bits n buffer .frame))
+  pub read-has : (s : BitSettings) (x : Reader) (f : List ℕ) → Octets f → reading s x f .refusal ≡ 0 → HasBits s (reading s x f .bits) f
+
+-- and with these the list, carried and handed over, and every event of the extractor
+pub record Demand2 : Type 0 where
+  pub fields : Fields
+  pub headers-read : Headers
+  pub packets-read : Packets
+  pub bits-read : Bits
+  pub orders : OrdersCarried
+  pub orders-back : OrdersHandedOver
+  pub list : ListCarried
+  pub list-back : ListHandedOver
+  pub events : SaysTheRules
