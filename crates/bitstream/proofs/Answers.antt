@@ -1,26 +1,18 @@
 -- The refusal of an answer is the first row that holds, and a refused call keeps its record and its buffers.
 -- Assumes nothing.
-use mathlib.Core.Path.{_≡_, refl, sym, _∙_}
+use mathlib.Core.Path.{_≡_, refl}
 use mathlib.Core.List.{List}
-use mathlib.Core.Bool.{Bool, true, false}
+use mathlib.Core.Bool.{false}
 use Prim.Native.Nat.{ℕ}
 use lib.ListN.{length}
-use lib.Dec.{eqb}
-use borrow.Author.Tests.{ne-eqb, eqb-true}
-use Rattle.octets.specs.Basics.{pick, first}
+use borrow.Author.Tests.{ne-eqb}
+use Rattle.octets.specs.Basics.{first}
+use Rattle.octets.proofs.Choices.{refusal-kept}
 use Rattle.frames.specs.declared.bits.BitSettings.{BitSettings}
 use Rattle.bitstream.specs.Bitstream.{write-rows, Wrote, wrote, written, read-rows, reading}
 use Rattle.bitstream.specs.declared.Writer.{Writer}
 use Rattle.bitstream.specs.declared.Reader.{Reader}
 use Rattle.bitstream.specs.declared.Reading.{Reading}
-
--- of two answers, one for no refusal and one for each other
-pub refusal-kept : {A : Type 0} (said : A → ℕ) (r : ℕ) (done refused : A) → said done ≡ 0 → said refused ≡ r → said (pick (eqb r 0) done refused) ≡ r
-refusal-kept {A} said r done refused p q = go (eqb r 0) refl
-  where
-    go : (t : Bool) → eqb r 0 ≡ t → said (pick t done refused) ≡ r
-    go true e = p ∙ sym (eqb-true r 0 e)
-    go false e = q
 
 module _ (s : BitSettings) (w : Writer) (n : ℕ) (bits d : List ℕ) where
   pub write-refusal : written s w bits n d .said .refusal ≡ first (write-rows s w n (length bits) (length d))

@@ -9,4 +9,4 @@ pub mod Pointers
 pub mod ReadBack
 pub mod Flags
 pub mod Reached
-pub mod Samples
+pub mod Passes

@@ -3,16 +3,18 @@
 use mathlib.Core.Path.{_≡_, refl, sym, ap, subst, _∙_}
 use mathlib.Core.List.{List, []}
 use mathlib.Core.Bool.{Bool, true, false}
-use Prim.Native.Nat.{ℕ, zero, suc, _+_, _%_, _^_, _<_}
+use Prim.Native.Nat.{ℕ, zero, suc, _+_, _^_, _<_}
+use native.Mathlib.Nat.{mod-lt, mod-eq-of-lt}
 use native.Mathlib.Omega.{arith}
 use lib.ListN.{length, replicate, length-replicate}
 use lib.Dec.{eqb}
+use lib.Pow.{pow-pos}
 use borrow.Author.Tests.{le-leb, lt-ltb, le-ltb, ltb-true}
 use Rattle.octets.specs.Basics.{first}
-use Rattle.octets.proofs.Fields.{field-lt}
 use Rattle.frames.specs.Link.{count-width, next-count, primary}
 use Rattle.frames.specs.BitFrame.{bits-in-range, bit-frame-length, bit-count, most-bits}
 use Rattle.frames.specs.declared.bits.BitSettings.{BitSettings}
+use Rattle.frames.proofs.Wheel.{count-lt}
 use Rattle.bitstream.specs.Bitstream.{octets-for, writer-reachable, write-rows, Wrote, written, frame-with, reader-reachable, read-rows, reading}
 use Rattle.bitstream.specs.Statements.{WriterReached, nothing-written, wrote-more, ReaderReached, nothing-read, read-more}
 use Rattle.bitstream.specs.declared.Writer.{Writer}
@@ -27,19 +29,19 @@ use Rattle.bitstream.proofs.ReadBack.{frame-read-back}
 
 pub writer-kept : (s : BitSettings) (w : Writer) (bits : List ℕ) (n : ℕ) (d : List ℕ) → writer-reachable s w ≡ true
     → writer-reachable s (written s w bits n d .said .writer) ≡ true
-unfolding written writer-reachable next-count count-width
+unfolding written writer-reachable next-count
 writer-kept s w bits n d h = go (eqb (first (write-rows s w n (length bits) (length d))) 0) refl
   where
     go : (t : Bool) → eqb (first (write-rows s w n (length bits) (length d))) 0 ≡ t → writer-reachable s (written s w bits n d .said .writer) ≡ true
-    go true e = rw e (lt-ltb ((w .count + 1) % 2 ^ 24) (2 ^ 24) (omega arith))
+    go true e = rw e (lt-ltb (next-count (count-width (s .link)) (w .count)) (2 ^ count-width (s .link)) (mod-lt (w .count + 1) (pow-pos (count-width (s .link)))))
     go false e = rw e h
 
 pub reader-kept : (s : BitSettings) (x : Reader) (f : List ℕ) → reader-reachable s x ≡ true → reader-reachable s (reading s x f .reader) ≡ true
-unfolding reading reader-reachable count-width
+unfolding reading reader-reachable
 reader-kept s x f h = go (eqb (first (read-rows s x f)) 0) refl
   where
     go : (t : Bool) → eqb (first (read-rows s x f)) 0 ≡ t → reader-reachable s (reading s x f .reader) ≡ true
-    go true e = rw e (lt-ltb (bit-count s f) (2 ^ 24) (field-lt (primary (s .link) f) 8 24))
+    go true e = rw e (lt-ltb (bit-count s f) (2 ^ count-width (s .link)) (count-lt (s .link) (primary (s .link) f)))
     go false e = rw e h
 
 pub writer-passes : (s : BitSettings) (w : Writer) → WriterReached s w → writer-reachable s w ≡ true
@@ -62,28 +64,29 @@ module _ (s : BitSettings) (range : bits-in-range s ≡ true) where
   abbrev counted : ℕ → Writer
   counted c = record { count = c }
 
-  none : (c : ℕ) → c < 2 ^ 24 → first (write-rows s (counted c) 0 0 (length frame)) ≡ 0
-  unfolding first write-rows octets-for writer-reachable count-width
-  none c h = rw (range, le-leb 0 (most-bits s) (omega arith), length-replicate {A = ℕ} (bit-frame-length s) 0, le-ltb (bit-frame-length s) (bit-frame-length s) (omega arith), lt-ltb c (2 ^ 24) h) refl
+  none : (c : ℕ) → c < 2 ^ count-width (s .link) → first (write-rows s (counted c) 0 0 (length frame)) ≡ 0
+  unfolding first write-rows octets-for writer-reachable
+  none c h = rw (range, le-leb 0 (most-bits s) (omega arith), length-replicate {A = ℕ} (bit-frame-length s) 0, le-ltb (bit-frame-length s) (bit-frame-length s) (omega arith), lt-ltb c (2 ^ count-width (s .link)) h) refl
 
-  writes : (c : ℕ) → suc c < 2 ^ 24 → WriterReached s (counted c) → WriterReached s (counted (suc c))
+  writes : (c : ℕ) → suc c < 2 ^ count-width (s .link) → WriterReached s (counted c) → WriterReached s (counted (suc c))
   unfolding next-count
   writes c h r =
       let n : first (write-rows s (counted c) 0 0 (length frame)) ≡ 0 = none c (omega arith) in
-      let next : suc c ≡ (c + 1) % 2 ^ 24 = omega arith in
+      let small : c + 1 < 2 ^ count-width (s .link) = omega arith in
+      let next : suc c ≡ next-count (count-width (s .link)) c = omega (arith, mod-eq-of-lt small) in
       subst (WriterReached s) (sym (ap (λ (a : Wrote). a .said .writer) (write-done s (counted c) 0 [] frame (suc c) _ n next refl)))
       (wrote-more r [] 0 frame (write-refusal s (counted c) 0 [] frame ∙ n))
 
-  counts : (c : ℕ) → c < 2 ^ 24 → WriterReached s (counted c)
+  counts : (c : ℕ) → c < 2 ^ count-width (s .link) → WriterReached s (counted c)
   counts zero h = nothing-written
   counts (suc c) h = writes c h (counts c (omega arith))
 
   pub writer-reached : (w : Writer) → writer-reachable s w ≡ true → WriterReached s w
-  unfolding writer-reachable count-width
+  unfolding writer-reachable
   writer-reached w h = counts (w .count) (ltb-true _ _ h)
 
   pub reader-reached : (x : Reader) → reader-reachable s x ≡ true → ReaderReached s x
-  unfolding reader-reachable count-width octets-for
+  unfolding reader-reachable octets-for
   reader-reached Fresh h = nothing-read
   reader-reached (Last c) h =
       let back = frame-read-back s range c 0 [] (ltb-true _ _ h) (omega arith) (omega arith) (λ i. record { fits = omega arith }) Fresh refl .said in

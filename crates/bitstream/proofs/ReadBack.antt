@@ -13,7 +13,7 @@ use Rattle.octets.specs.Basics.{pick, and, read, over, first}
 use Rattle.octets.proofs.Fields.{field-lt}
 use Rattle.octets.proofs.Numbers.{Octets, octets-take, octets-drop}
 use Rattle.octets.proofs.Written.{over-take}
-use Rattle.frames.specs.Link.{headers, zone-head}
+use Rattle.frames.specs.Link.{headers, zone-head, count-width}
 use Rattle.frames.specs.BitFrame.{bits-in-range, bit-frame-length, bit-frame-rows, bit-head, bit-zone-of, bit-count, bit-replay, bit-pointer, bit-pointer-word, most-bits}
 use Rattle.frames.specs.declared.bits.BitSettings.{BitSettings}
 use Rattle.frames.proofs.ReadBack.{length-headers}
@@ -37,7 +37,7 @@ unfolding bit-at
 bit-take m os i h = ap (read (bit-place (i % 8))) (getD-take m os (i / 8) 0 h)
 
 -- a frame with n bits
-module _ (s : BitSettings) (range : bits-in-range s ≡ true) (c n : ℕ) (bits : List ℕ) (wheel : c < 2 ^ 24) (inside : n ≤ most-bits s) (lent : octets-for n ≤ length bits) where
+module _ (s : BitSettings) (range : bits-in-range s ≡ true) (c n : ℕ) (bits : List ℕ) (wheel : c < 2 ^ count-width (s .link)) (inside : n ≤ most-bits s) (lent : octets-for n ≤ length bits) where
   abbrev settled : BitsSettled s
   settled = bits-settled s range
 

@@ -14,7 +14,7 @@ use Rattle.frames.specs.declared.Heading.{Heading}
 use Rattle.bitstream.specs.Bitstream.{valid-bits, reader-reachable, read-rows, loss-flag, reading}
 use Rattle.bitstream.specs.declared.Reader.{Reader}
 use Rattle.bitstream.specs.declared.Reader.the-variants.{Last}
-use Rattle.bitstream.proofs.Answers.{refusal-kept}
+use Rattle.octets.proofs.Choices.{refusal-kept}
 
 -- a table of which no row holds
 pub record Readable (s : BitSettings) (x : Reader) (f : List ℕ) : Type 0 where

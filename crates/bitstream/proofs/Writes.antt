@@ -9,7 +9,7 @@ use lib.ListN.{length}
 use lib.Dec.{eqb}
 use borrow.Author.Tests.{leb-true, ltb-true, ltb-false, not-false, eq-eqb}
 use Rattle.octets.specs.Basics.{pick, or, over, first}
-use Rattle.octets.proofs.Choices.{and-true, none-holds, pick-lt}
+use Rattle.octets.proofs.Choices.{and-true, none-holds, or-false, pick-lt}
 use Rattle.octets.proofs.Written.{over-over}
 use Rattle.frames.specs.Link.{count-width, next-count}
 use Rattle.frames.specs.BitFrame.{bits-in-range, bit-frame-length, bit-head, bit-head-rows, most-bits}
@@ -19,20 +19,16 @@ use Rattle.frames.proofs.bits.Heads.{bit-head-taken, length-bit-head}
 use Rattle.bitstream.specs.Bitstream.{octets-for, pointer-for, writer-reachable, write-rows, frame-with, zone-with, wrote, written}
 use Rattle.bitstream.specs.declared.Writer.{Writer}
 
-or-false : (a b : Bool) → or a b ≡ false → (a ≡ false) × (b ≡ false)
-or-false true b e = absurd (omega (arith, ap (λ (t : Bool). pick {A = ℕ} t 1 0) e))
-or-false false b e = (refl, e)
-
 -- a table of which no row holds
 pub record Allowed (s : BitSettings) (w : Writer) (n lent room : ℕ) : Type 0 where
   pub in-range : bits-in-range s ≡ true
   pub inside : n ≤ most-bits s
   pub room-enough : bit-frame-length s ≤ room
   pub lent-enough : octets-for n ≤ lent
-  pub counted : w .count < 2 ^ 24
+  pub counted : w .count < 2 ^ count-width (s .link)
 
 pub allowed : (s : BitSettings) (w : Writer) (n lent room : ℕ) → first (write-rows s w n lent room) ≡ 0 → Allowed s w n lent room
-unfolding write-rows writer-reachable count-width
+unfolding write-rows writer-reachable
 allowed s w n lent room e =
     let one = none-holds 0 _ _ e in
     let two = none-holds 1 _ _ (one .1) in
@@ -80,7 +76,7 @@ module _ (s : BitSettings) (w : Writer) (n : ℕ) (bits d : List ℕ) (a : Allow
 
 -- the answer
 module _ (s : BitSettings) (w : Writer) (n : ℕ) (bits d : List ℕ) where
-  pub write-done : (c : ℕ) (f : List ℕ) → first (write-rows s w n (length bits) (length d)) ≡ 0 → c ≡ next-count 24 (w .count)
+  pub write-done : (c : ℕ) (f : List ℕ) → first (write-rows s w n (length bits) (length d)) ≡ 0 → c ≡ next-count (count-width (s .link)) (w .count)
       → f ≡ over d 0 (frame-with s (w .count) n bits) → wrote (record { refusal = 0; writer = record { count = c } }) f ≡ written s w bits n d
-  unfolding written count-width
+  unfolding written
   write-done c f p q h = rw (p, q, h) refl

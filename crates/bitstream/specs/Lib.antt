@@ -1,2 +1,3 @@
 pub mod Bitstream
 pub mod Statements
+pub mod Passes

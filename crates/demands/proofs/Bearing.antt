@@ -9,13 +9,13 @@ use native.Mathlib.Omega.{arith}
 use lib.ListN.{length}
 use borrow.Author.Tests.{eq-eqb}
 use Rattle.octets.specs.Basics.{first}
-use Rattle.octets.proofs.Fields.{field-lt}
-use Rattle.frames.specs.Link.{primary, header-rows, count-width, next-count, missing}
+use Rattle.frames.specs.Link.{primary, header-rows, count-width, next-count}
 use Rattle.frames.specs.Frame.{frame-length, version, spacecraft, channel, count, spare, zone-spare, pointer, frame-rows}
 use Rattle.frames.specs.declared.Settings.{Settings}
 use Rattle.frames.proofs.Framed.{Used}
 use Rattle.frames.proofs.Rows.{sound-frame}
 use Rattle.frames.proofs.Settled.{Settled}
+use Rattle.frames.proofs.Wheel.{count-lt, none-missing}
 use Rattle.extractor.specs.Extract.{lost-since}
 use Rattle.demands.specs.Carries.{Bears, Rising}
 
@@ -54,8 +54,7 @@ Counted s none = Unit {0}
 Counted s (some c) = c < 2 ^ count-width (s .link)
 
 pub count-fits : (s : Settings) (f : List ℕ) → Counted s (some (count s f))
-unfolding count-width
-count-fits s f = field-lt (primary (s .link) f) 8 24
+count-fits s f = count-lt (s .link) (primary (s .link) f)
 
 -- the frame's count is the next one
 abbrev pub Next : Settings → Option ℕ → List ℕ → Type 0
@@ -79,11 +78,9 @@ rising-follows s (f ∷ fs) = (λ r. (tt, rising-after s f fs .0 r), λ r. risin
 
 -- nothing is missing where the count is the next one, and nowhere else
 pub lost-next : (s : Settings) (last : Option ℕ) (f : List ℕ) → Counted s last → (lost-since s last (count s f) ≡ 0) ↔ Next s last f
-unfolding lost-since missing next-count count-width
+unfolding lost-since
 lost-next s none f h = (λ e. tt, λ e. refl)
-lost-next s (some c) f h =
-    let k : count s f < 2 ^ 24 = field-lt (primary (s .link) f) 8 24 in
-    (λ e. omega arith, λ e. omega arith)
+lost-next s (some c) f h = none-missing (count-width (s .link)) c (count s f) (count-fits s f)
 
 -- ---- settings
 

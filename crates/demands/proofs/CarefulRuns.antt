@@ -11,6 +11,7 @@ use lib.Dec.{eqb, lit<}
 use lib.Pow.{pow-pos}
 use borrow.Author.Tests.{eqb-true, eq-eqb}
 use Rattle.octets.specs.Basics.{pick, All}
+use Rattle.octets.proofs.Fronts.{all-joined}
 use Rattle.packets.specs.Packet.{WellFormed, end-to-end}
 use Rattle.packets.specs.Idle.{idle-packet}
 use Rattle.packets.proofs.Grown.{look-bounds}
@@ -32,7 +33,6 @@ use Rattle.demands.specs.Demand2List.{Delivers, OrdersCarried, ListCarri
 use Rattle.demands.proofs.CarefulPuts.{length-snoc, At, Rests, Flushed, at-by, filled-at, lent-now, put-closes, puts-end}
 use Rattle.demands.proofs.FirstStarts.{Some, first-start-empty, between-ends}
 use Rattle.demands.proofs.FrameRuns.{count-at, Runs, runs-end, runs-idle, runs-carry}
-use Rattle.demands.proofs.Joins.{all-append}
 
 -- a run at its end, where all of ws is put
 record Ended (s : Settings) (ws : List (List ℕ)) (x : Sending) : Type 0 where
@@ -209,7 +209,7 @@ module _ (s : Settings) (e : in-range s ≡ true) (range : Settled s) (lend : �
       ∙ sym (filled-at s e range lend lent ws y _ (end .at)) in
       on ws (qs ++ (p ∷ [])) y
       (cut ∙ sym (append-assoc qs (p ∷ []) (offered s filled cs)) ∙ ap (λ (k : ℕ). (qs ++ (p ∷ [])) ++ offered s k cs) same)
-      (all-append (λ q. 0 < length q) qs (p ∷ []) some one)
+      (all-joined (λ q. 0 < length q) qs (p ∷ []) some one)
       (record { at = at-by (sym (length-snoc qs p)) (end .at); none = end .none })
 
   -- a flush puts its idle packet, and the rest is offered to an empty zone
@@ -227,7 +227,7 @@ module _ (s : Settings) (e : in-range s ≡ true) (range : Settled s) (lend : �
       filler-all (λ q. 0 < length q) (x .mux .filled) (omega (arith, idle-length (s .fill) (s .zone - x .mux .filled) (omega arith))) in
       record {
         whole = cut ∙ sym (append-assoc qs idle rest);
-        all = all-append (λ q. 0 < length q) qs idle some some-idle;
+        all = all-joined (λ q. 0 < length q) qs idle some some-idle;
         flushed = rw (flush-done ws qs rest x some rests) (flush-step ws qs rest x some rests cut);
       }
 
@@ -295,9 +295,9 @@ module _ (s : Settings) (e : in-range s ≡ true) (range : Settled s) (lend : �
   offered-formed filled (to-put p ∷ cs) room formed =
       (formed .0, offered-formed ((filled + length p) % s .zone) cs (mod-lt (filled + length p) (range .zone-least)) (formed .1))
   offered-formed filled (to-flush ∷ cs) room formed =
-      all-append (WellFormed (s .limit)) (filler s filled) (offered s 0 cs) (filler-formed filled room) (offered-formed 0 cs (range .zone-least) (formed .1))
+      all-joined (WellFormed (s .limit)) (filler s filled) (offered s 0 cs) (filler-formed filled room) (offered-formed 0 cs (range .zone-least) (formed .1))
   offered-formed filled (to-idle ∷ cs) room formed =
-      all-append (WellFormed (s .limit)) (filler s filled) (offered s 0 cs) (filler-formed filled room) (offered-formed 0 cs (range .zone-least) (formed .1))
+      all-joined (WellFormed (s .limit)) (filler s filled) (offered s 0 cs) (filler-formed filled room) (offered-formed 0 cs (range .zone-least) (formed .1))
 
 -- a run with care delivers, whatever is lent for its frames
 pub run-delivers : OrdersCarried

@@ -12,6 +12,7 @@ use lib.Dec.{eqb}
 use borrow.Author.Tests.{eqb-true, eqb-false}
 use Rattle.octets.specs.Basics.{All}
 use Rattle.octets.proofs.Choices.{apart}
+use Rattle.octets.proofs.Fronts.{all-joined}
 use Rattle.octets.proofs.Tests.{test}
 use Rattle.packets.specs.Packet.{WellFormed, end-to-end}
 use Rattle.frames.specs.Frame.{idle-zone, zone-of, count, pointer}
@@ -26,7 +27,7 @@ use Rattle.judge.proofs.Faults.{Passes}
 use Rattle.judge.proofs.Verdicts.{walked-idle, walked-data, in-step-with, walked-to, judged-step, judged-passes}
 use Rattle.demands.specs.Carries.{starts, first-start, LaidFrom, Bears}
 use Rattle.demands.proofs.Bearing.{rows-bear, bears-length, Counted, count-fits, Follows, lost-next, some-limit}
-use Rattle.demands.proofs.Joins.{end-to-end-append, all-append}
+use Rattle.demands.proofs.Joins.{end-to-end-append}
 use Rattle.demands.proofs.Laid.{between-nil, laid-idle, laid-data, laid-shift, agreed-start, agrees-start, agrees-idle}
 
 -- the packets that a run carries from its first frame on, of which `held` is the beginning
@@ -117,7 +118,7 @@ finds-data s f fs g again n last held k o j ni = record {
     ps = c .done ++ r .packets
 
     formed : All (WellFormed (s .limit)) ps
-    formed = all-append (WellFormed (s .limit)) (c .done) (r .packets) (c .formed) (r .formed)
+    formed = all-joined (WellFormed (s .limit)) (c .done) (r .packets) (c .formed) (r .formed)
 
     joined : (held ++ z) ++ r .after ≡ end-to-end ps
     joined =

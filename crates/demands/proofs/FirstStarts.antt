@@ -12,10 +12,10 @@ use lib.Dec.{leb, ltb, eqb}
 use borrow.Author.Tests.{leb-true, ltb-true, eqb-true, lt-ltb, eq-eqb, ne-eqb}
 use Rattle.octets.specs.Basics.{pick, and, All}
 use Rattle.octets.proofs.Choices.{and-true}
+use Rattle.octets.proofs.Fronts.{all-joined}
 use Rattle.packets.specs.Packet.{end-to-end}
 use Rattle.frames.specs.Frame.{idle-zone, no-start}
 use Rattle.demands.specs.Carries.{starts, first-start, Among, Between}
-use Rattle.demands.proofs.Joins.{all-append}
 use Rattle.demands.proofs.Laid.{first-start-later, first-start-there, first-start-range}
 
 -- u, or v where u is no start
@@ -168,4 +168,4 @@ module _ (qs : List (List ℕ)) (p : List ℕ) (rest : List (List ℕ)) (full : 
 
       begun-below : All (λ x. x < o + a) begun
       begun-below =
-          all-append (λ x. x < o + a) (starts 0 qs) (from ∷ []) (starts-below 0 (o + a) qs full (omega arith)) (omega arith, tt)
+          all-joined (λ x. x < o + a) (starts 0 qs) (from ∷ []) (starts-below 0 (o + a) qs full (omega arith)) (omega arith, tt)

@@ -12,7 +12,7 @@ use Rattle.multiplexer.proofs.Passes as multiplexer
 use Rattle.extractor.specs.Extract.{take-in, step-of, reason-of, lost-since, reason-in, reason-by, agreed, agreed-look, walked, walk, walk-turns, walk-look}
 use Rattle.extractor.proofs.Passed.{sample-passes}
 use Rattle.judge.specs.Judge.{is-fault, faulty-entry, faulty, close, judged, verdict}
-use Rattle.bitstream.proofs.Samples as bitstream
+use Rattle.bitstream.proofs.Passes as bitstream
 use Rattle.demands.specs.Table.{Pass1, Table}
 
 pass-1 : Pass1

@@ -7,7 +7,7 @@ use mathlib.Core.Bool.{Bool, true, false}
 use lib.Dec.{eqb}
 use borrow.Author.Tests.{ne-eqb}
 use Rattle.octets.specs.Basics.{pick, Row, first}
-use Rattle.bitstream.proofs.Answers.{refusal-kept}
+use Rattle.octets.proofs.Choices.{refusal-kept}
 use Rattle.demands.specs.Promises.{Left, Refuses, One, Promised}
 
 -- what a call is given: what is done where no row holds, and the refusal where one does

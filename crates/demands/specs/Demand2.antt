@@ -10,7 +10,7 @@ use Rattle.packets.specs.Wrap.{wrapped-total, wrap-rows}
 use Rattle.packets.specs.Wrap as packets
 use Rattle.packets.specs.Space.{space-rows, space-reading, space-writing}
 use Rattle.packets.specs.declared.space.SpaceHeader.{SpaceHeader}
-use Rattle.frames.specs.Link.{headers}
+use Rattle.frames.specs.Link.{zone-at, count-width, headers}
 use Rattle.frames.specs.Frame.{in-range, frame-rows, zone-of, count, replay, pointer, pointer-word, head}
 use Rattle.frames.specs.declared.Settings.{Settings}
 use Rattle.frames.specs.BitFrame.{bit-frame-length}
@@ -34,9 +34,10 @@ pub record Fields : Type 0 where
 
 -- a frame's header that is written is read back, and a frame that is not refused is its header, written again, and its zone
 pub record Headers : Type 0 where
-  pub count-back : (s : Settings) (c p : ℕ) (f : List ℕ) → in-range s ≡ true → c < 2 ^ 24 → p < 2 ^ 11 → take 8 f ≡ head s c p → count s f ≡ c
-  pub pointer-back : (s : Settings) (c p : ℕ) (f : List ℕ) → in-range s ≡ true → c < 2 ^ 24 → p < 2 ^ 11 → take 8 f ≡ head s c p
-      → pointer s f ≡ p
+  pub count-back : (s : Settings) (c p : ℕ) (f : List ℕ) → in-range s ≡ true → c < 2 ^ count-width (s .link) → p < 2 ^ 11
+      → take (zone-at (s .link)) f ≡ head s c p → count s f ≡ c
+  pub pointer-back : (s : Settings) (c p : ℕ) (f : List ℕ) → in-range s ≡ true → c < 2 ^ count-width (s .link) → p < 2 ^ 11
+      → take (zone-at (s .link)) f ≡ head s c p → pointer s f ≡ p
   pub again : (s : Settings) (f : List ℕ) → in-range s ≡ true → Octets f → first (frame-rows s f) ≡ 0
       → f ≡ headers (s .link) (count s f) (replay s f) (pointer-word (pointer s f)) ++ zone-of s f
 

@@ -9,7 +9,7 @@ use Rattle.frames.specs.Passes as frames
 use Rattle.multiplexer.specs.Passes as multiplexer
 use Rattle.extractor.specs.Passes.{sample, first-frame, second-frame, Pass, passes, SamplePasses}
 use Rattle.judge.specs.Judge.{Verdict, pass, fault, verdict}
-use Rattle.bitstream.proofs.Samples as bitstream
+use Rattle.bitstream.specs.Passes as bitstream
 
 -- what is shown of a packet: its APID or protocol, whether it is idle, and its length
 pub record Shown : Type 0 where

@@ -18,12 +18,13 @@ use Rattle.octets.proofs.Tests.{test, and-both}
 use Rattle.packets.specs.Packet.{Look, more, damaged, whole, look}
 use Rattle.packets.proofs.Begun.{damaged-append}
 use Rattle.packets.proofs.Grown.{look-append}
-use Rattle.frames.specs.Link.{head-word, headers, count-width, missing}
+use Rattle.frames.specs.Link.{head-word, headers, count-width}
 use Rattle.frames.specs.Frame.{idle-zone, no-start, in-range, frame-length, zone-of, pointer-word, head}
 use Rattle.frames.specs.declared.Settings.{Settings}
 use Rattle.frames.proofs.Accepted.{length-zone, accepted}
 use Rattle.frames.proofs.Framed.{framed, Used, Framed, framed-is, pointer-inside, pointer-beyond}
 use Rattle.frames.proofs.Settled.{settled}
+use Rattle.frames.proofs.Wheel.{count-before, before-on-wheel, follows-before}
 use Rattle.extractor.specs.Extract.{astray, in-step, Walked, agreed-look, agreed, reason-by, reason-in, lost-since, reason-of, step-of}
 use Rattle.extractor.specs.Records.{unfinished, holds-well, on-wheel, reachable, is-entered, held-in, stands-for, enter-rows, set-off, set-out, enter, step-rows, Stepped, steps-to, step, step-call}
 use Rattle.extractor.specs.Answers.{enter-answer}
@@ -144,12 +145,8 @@ reached-sound {s} (lent {x} {store} {st} same r) =
 -- ---- the other way: calls that lead to a record
 
 -- the count before a count
-abbrev before : ℕ → ℕ
-before c = (c + 16777215) % 16777216
-
-none-missing : (s : Settings) (c : ℕ) → c < 2 ^ 24 → missing (count-width (s .link)) (before c) c ≡ 0
-unfolding missing count-width
-none-missing s c small = omega arith
+abbrev before : Settings → ℕ → ℕ
+before s c = count-before (count-width (s .link)) c
 
 -- a step that keeps the octets ahead for later
 keeps-on : (s : Settings) (f store : List ℕ) {last h at : ℕ} {w : Stepped} → Turn s f store (Walking last h at) w
@@ -169,14 +166,14 @@ all-framed s c p z small =
     all-append (front ++ back) z (all-append front back (all-octets 6 (head-word (s .link) c 0)) (all-octets 2 (pointer-word p))) small
 
 -- a frame that follows the last one, with the pointer that agrees with what is held
-step-held : (s : Settings) (held f z : List ℕ) (c p : ℕ) → c < 2 ^ 24 → Framed s c p z f → agreed s held z ≡ some (p ∷ [])
-    → step-of s (record { last = some (before c); step = in-step held }) f ≡ in-step held
+step-held : (s : Settings) (held f z : List ℕ) (c p : ℕ) → c < 2 ^ count-width (s .link) → Framed s c p z f → agreed s held z ≡ some (p ∷ [])
+    → step-of s (record { last = some (before s c); step = in-step held }) f ≡ in-step held
 unfolding step-of reason-of lost-since reason-in reason-by
 step-held s held f z c p c-small r agree =
-    rw (r .its-count, none-missing s c c-small, r .its-pointer, r .its-zone, agree, eq-eqb p p refl)
+    rw (r .its-count, follows-before (count-width (s .link)) c c-small, r .its-pointer, r .its-zone, agree, eq-eqb p p refl)
 
-enter-held : (s : Settings) (held f z : List ℕ) (c p : ℕ) → c < 2 ^ 24 → Framed s c p z f → agreed s held z ≡ some (p ∷ [])
-    → (p ≡ idle-zone → ⊥) → enter s (record { last = some (before c); step = in-step held }) f ≡ Walking c (length held) 0
+enter-held : (s : Settings) (held f z : List ℕ) (c p : ℕ) → c < 2 ^ count-width (s .link) → Framed s c p z f → agreed s held z ≡ some (p ∷ [])
+    → (p ≡ idle-zone → ⊥) → enter s (record { last = some (before s c); step = in-step held }) f ≡ Walking c (length held) 0
 unfolding enter set-off
 enter-held s held f z c p c-small r agree not-idle =
     rw (step-held s held f z c p c-small r agree, r .its-count, r .its-pointer, ne-eqb p idle-zone not-idle) refl
@@ -276,20 +273,20 @@ module _ (s : Settings) (store : List ℕ) (ok : in-range s ≡ true) (room : s 
   unfolding enter step-of reason-of lost-since reason-in stands-for is-entered
   from-fresh c p z z-small r = rw (r .its-count, r .its-pointer) at (led-in {x = Fresh} c p z z-small r refl begins)
 
-  blank-frame : (c p : ℕ) → c < 2 ^ 24 → p < 2 ^ 11 → Used s p → Framed s c p (blank s) (framed s c p (blank s))
+  blank-frame : (c p : ℕ) → c < 2 ^ count-width (s .link) → p < 2 ^ 11 → Used s p → Framed s c p (blank s) (framed s c p (blank s))
   blank-frame c p c-small p-small used = framed-is s c p (blank s) ok c-small p-small (length-replicate (s .zone) 0) used
 
-  frame-none : (c : ℕ) → c < 2 ^ 24 → Framed s c no-start (blank s) (framed s c no-start (blank s))
+  frame-none : (c : ℕ) → c < 2 ^ count-width (s .link) → Framed s c no-start (blank s) (framed s c no-start (blank s))
   frame-none c c-small = blank-frame c no-start c-small (omega arith) (pointer-beyond s no-start (omega arith))
 
-  frame-idle : (c : ℕ) → c < 2 ^ 24 → Framed s c idle-zone (blank s) (framed s c idle-zone (blank s))
+  frame-idle : (c : ℕ) → c < 2 ^ count-width (s .link) → Framed s c idle-zone (blank s) (framed s c idle-zone (blank s))
   frame-idle c c-small = blank-frame c idle-zone c-small (omega arith) (pointer-beyond s idle-zone (omega arith))
 
-  led-leaving : (c : ℕ) → c < 2 ^ 24 → Reached s (Leaving c) store
+  led-leaving : (c : ℕ) → c < 2 ^ count-width (s .link) → Reached s (Leaving c) store
   unfolding set-off
   led-leaving c c-small = from-fresh c no-start (blank s) (all-zeros (s .zone)) (frame-none c c-small)
 
-  led-end : (c : ℕ) → c < 2 ^ 24 → Reached s (Walking c 0 (s .zone)) store
+  led-end : (c : ℕ) → c < 2 ^ count-width (s .link) → Reached s (Walking c 0 (s .zone)) store
   unfolding set-off
   led-end c c-small = from-fresh c idle-zone (blank s) (all-zeros (s .zone)) (frame-idle c c-small)
 
@@ -300,13 +297,13 @@ module _ (s : Settings) (store : List ℕ) (ok : in-range s ≡ true) (room : s 
       let not-none : eqb p no-start ≡ false = ne-eqb p no-start (omega (arith, settled s ok)) in
       rw (not-idle, not-none) at (from-fresh c p z z-small r)
 
-  led-astray : (c : ℕ) → c < 2 ^ 24 → Reached s (Astray c) store
+  led-astray : (c : ℕ) → c < 2 ^ count-width (s .link) → Reached s (Astray c) store
   unfolding step is-entered
   led-astray c c-small =
       led-step {x = Leaving c} (framed s c no-start (blank s)) (all-framed s c no-start (blank s) (all-zeros (s .zone)))
       (frame-none c c-small .its-length) refl (led-leaving c c-small)
 
-  led-walking : (c at : ℕ) → c < 2 ^ 24 → at ≤ s .zone → Reached s (Walking c 0 at) store
+  led-walking : (c at : ℕ) → c < 2 ^ count-width (s .link) → at ≤ s .zone → Reached s (Walking c 0 at) store
   led-walking c at c-small low =
       test (ltb at (s .zone))
       (λ t.
@@ -316,7 +313,7 @@ module _ (s : Settings) (store : List ℕ) (ok : in-range s ≡ true) (room : s 
       let end : at ≡ s .zone = omega (arith, ltb-false at (s .zone) t) in
       rw end (led-end c c-small))
 
-  led-empty : (c : ℕ) → c < 2 ^ 24 → Reached s (InStep c 0) store
+  led-empty : (c : ℕ) → c < 2 ^ count-width (s .link) → Reached s (InStep c 0) store
   unfolding look unfinished
   led-empty c c-small =
       let r = frame-idle c c-small in
@@ -327,7 +324,7 @@ module _ (s : Settings) (store : List ℕ) (ok : in-range s ≡ true) (room : s 
       (in-zone {at = s .zone} (omega arith)) (led-end c c-small) end (omega arith) refl
 
   -- a packet begun that one zone holds
-  led-short : (c h : ℕ) → c < 2 ^ 24 → 1 ≤ h → h ≤ s .zone → BegunIn s store h → Reached s (InStep c h) store
+  led-short : (c h : ℕ) → c < 2 ^ count-width (s .link) → 1 ≤ h → h ≤ s .zone → BegunIn s store h → Reached s (InStep c h) store
   led-short c h c-small some-held fits begun =
       let zeros : List ℕ = replicate (s .zone - h) 0 in
       let held-fits : h ≤ length store = omega (arith, settled s ok) in
@@ -343,16 +340,16 @@ module _ (s : Settings) (store : List ℕ) (ok : in-range s ≡ true) (room : s 
       (led-inside c p z z-small low r) same held-fits begun
 
   -- a record that holds a packet begun enters a frame whose zone goes on with it
-  led-on : (z : List ℕ) (c h p : ℕ) → c < 2 ^ 24 → h ≤ length store → AllOctets z → Framed s c p z (framed s c p z)
+  led-on : (z : List ℕ) (c h p : ℕ) → c < 2 ^ count-width (s .link) → h ≤ length store → AllOctets z → Framed s c p z (framed s c p z)
       → agreed s (take h store) z ≡ some (p ∷ []) → (p ≡ idle-zone → ⊥)
-      → Reached s (InStep (before c) h) store → Reached s (Walking c h 0) store
+      → Reached s (InStep (before s c) h) store → Reached s (Walking c h 0) store
   unfolding stands-for is-entered
   led-on z c h p c-small fits z-small r agree not-idle d =
       let f : List ℕ = framed s c p z in
       let here : length (take h store) ≡ h = length-take-le h store fits in
-      let e : enter s (stands-for store (InStep (before c) h)) f ≡ Walking c h 0 =
+      let e : enter s (stands-for store (InStep (before s c) h)) f ≡ Walking c h 0 =
       enter-held s (take h store) f z c p c-small r agree not-idle ∙ ap (λ n. Walking c n 0) here in
-      subst (λ (y : Extractor). Reached s y store) e (led-in {x = InStep (before c) h} c p z z-small r refl d)
+      subst (λ (y : Extractor). Reached s y store) e (led-in {x = InStep (before s c) h} c p z z-small r refl d)
 
   pub begun-within : (h n : ℕ) → h + n ≤ length store → BegunIn s store (h + n) → BegunIn s store h
   begun-within h n fits begun =
@@ -361,8 +358,8 @@ module _ (s : Settings) (store : List ℕ) (ok : in-range s ≡ true) (room : s 
       rw (length-take-le h store (omega arith)) at (begun-before (s .limit) (take h store) (take n (drop h store)) some-room (rw (all-length, joined) begun))
 
   -- a packet begun, from one that is begun a zone before
-  led-longer : (c h : ℕ) → c < 2 ^ 24 → 1 ≤ h → h + s .zone ≤ length store → BegunIn s store (h + s .zone)
-      → Reached s (InStep (before c) h) store → Reached s (InStep c (h + s .zone)) store
+  led-longer : (c h : ℕ) → c < 2 ^ count-width (s .link) → 1 ≤ h → h + s .zone ≤ length store → BegunIn s store (h + s .zone)
+      → Reached s (InStep (before s c) h) store → Reached s (InStep c (h + s .zone)) store
   led-longer c h c-small some-held fits begun d =
       let z : List ℕ = take (s .zone) (drop h store) in
       let held : List ℕ = take h store in
@@ -381,7 +378,7 @@ module _ (s : Settings) (store : List ℕ) (ok : in-range s ≡ true) (room : s 
       led-kept f {at = 0} (all-framed s c no-start z z-small) (r .its-length) (in-packet some-held (omega arith) held-begun) w same fits begun
 
   -- a packet begun, zone by zone
-  led-held : (n c h : ℕ) → h ≤ n → c < 2 ^ 24 → h ≤ length store → BegunIn s store h → Reached s (InStep c h) store
+  led-held : (n c h : ℕ) → h ≤ n → c < 2 ^ count-width (s .link) → h ≤ length store → BegunIn s store h → Reached s (InStep c h) store
   led-held zero c zero enough c-small fits begun = led-empty c c-small
   led-held zero c (suc h) enough c-small fits begun = absurd (omega arith)
   led-held (suc n) c zero enough c-small fits begun = led-empty c c-small
@@ -394,20 +391,19 @@ module _ (s : Settings) (store : List ℕ) (ok : in-range s ≡ true) (room : s 
       let e : suc h ≡ k + s .zone = omega arith in
       let begun′ : BegunIn s store (k + s .zone) = rw (← e) begun in
       let some-zone : 1 ≤ s .zone = omega (arith, settled s ok) in
-      let earlier : Reached s (InStep (before c) k) store =
-      led-held n (before c) k (omega arith) (omega arith) (omega arith) (begun-within k (s .zone) (omega arith) begun′) in
+      let earlier : Reached s (InStep (before s c) k) store =
+      led-held n (before s c) k (omega arith) (before-on-wheel (count-width (s .link)) c) (omega arith) (begun-within k (s .zone) (omega arith) begun′) in
       rw e (led-longer c k c-small (omega arith) (omega arith) begun′ earlier))
 
   -- a packet begun before a frame whose zone goes on with it
-  led-into : (c h : ℕ) → c < 2 ^ 24 → 1 ≤ h → h ≤ length store → BegunIn s store h → CanGoOn s (take h store) → Reached s (Walking c h 0) store
+  led-into : (c h : ℕ) → c < 2 ^ count-width (s .link) → 1 ≤ h → h ≤ length store → BegunIn s store h → CanGoOn s (take h store) → Reached s (Walking c h 0) store
   led-into c h c-small some-held fits begun (z, z-small, z-length, undamaged) =
       let (p, a) = agrees-with s (take h store) z ok (omega (arith, length-take-le h store fits)) undamaged in
       led-on z c h p c-small fits z-small (framed-is s c p z ok c-small (a .short) z-length (a .used)) (a .agrees) (a .not-idle)
-      (led-held h (before c) h (omega arith) (omega arith) fits begun)
+      (led-held h (before s c) h (omega arith) (before-on-wheel (count-width (s .link)) c) fits begun)
 
-  pub counted : (c : ℕ) → on-wheel s c ≡ true → c < 2 ^ 24
-  unfolding count-width
-  counted c wheel = ltb-true c (2 ^ 24) wheel
+  pub counted : (c : ℕ) → on-wheel s c ≡ true → c < 2 ^ count-width (s .link)
+  counted c wheel = ltb-true c (2 ^ count-width (s .link)) wheel
 
   -- calls lead to every record that passes the test, if what it holds before a zone can go on
   pub reachable-reached : (x : Extractor) → reachable s store x ≡ true → Continues s store x → Reached s x store

@@ -23,6 +23,7 @@ use Rattle.frames.specs.Link.{primary, count-width}
 use Rattle.frames.specs.declared.Settings.{Settings}
 use Rattle.frames.proofs.Accepted.{accepted}
 use Rattle.frames.proofs.Settled.{settled}
+use Rattle.frames.proofs.Wheel.{count-lt}
 use Rattle.extractor.specs.Extract.{State, astray, Event, torn, as-event, event-of, Walked, after, ends, walk-turns, walk, take-in}
 use Rattle.extractor.specs.Records.{on-wheel, reachable, is-entered, stands-for, enter, Stepped, steps-to, step-rows, step, step-call, shown}
 use Rattle.extractor.specs.Calls.{event-at, Finds, one-more, none-left, goes-on, steps, SpentLast}
@@ -208,8 +209,7 @@ module _ (s : Settings) (f : List ℕ) (ok : in-range s ≡ true) (right : lengt
 -- ---- a frame entered
 
 pub count-on-wheel : (s : Settings) (f : List ℕ) → on-wheel s (count s f) ≡ true
-unfolding count-width
-count-on-wheel s f = lt-ltb (count s f) (2 ^ 24) (field-lt (primary (s .link) f) 8 24)
+count-on-wheel s f = lt-ltb (count s f) (2 ^ count-width (s .link)) (count-lt (s .link) (primary (s .link) f))
 
 arrival-reachable : (s : Settings) (f store : List ℕ) {w : Walked} {x : Extractor} → Arrival s f store w x
     → (reachable s store x ≡ true) × (is-entered x ≡ true)

@@ -11,7 +11,7 @@ use lib.Dec.{leb}
 use borrow.Author.Tests.{lt-leb, eq-eqb}
 use Rattle.octets.specs.Basics.{and, first}
 use Rattle.octets.proofs.Choices.{and-false}
-use Rattle.frames.specs.Link.{header-rows}
+use Rattle.frames.specs.Link.{header-rows, count-width}
 use Rattle.frames.specs.Frame.{in-range, frame-length, frame-rows, zone-of, version, spacecraft, channel, count, spare, zone-spare, pointer, head}
 use Rattle.frames.specs.declared.Settings.{Settings}
 use Rattle.frames.proofs.ReadBack.{length-head, version-read, spacecraft-read, channel-read, count-read, spare-read, zone-spare-read, pointer-read}
@@ -39,7 +39,7 @@ pub record Framed (s : Settings) (c p : ℕ) (z f : List ℕ) : Type 0 where
   pub its-zone : zone-of s f ≡ z
   pub taken : first (frame-rows s f) ≡ 0
 
-module _ (s : Settings) (c p : ℕ) (z : List ℕ) (ok : in-range s ≡ true) (wheel : c < 2 ^ 24) (short : p < 2 ^ 11)
+module _ (s : Settings) (c p : ℕ) (z : List ℕ) (ok : in-range s ≡ true) (wheel : c < 2 ^ count-width (s .link)) (short : p < 2 ^ 11)
     (fits : length z ≡ s .zone) (used : Used s p) where
   headed : take 8 (framed s c p z) ≡ head s c p
   unfolding framed

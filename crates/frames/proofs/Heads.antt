@@ -33,7 +33,7 @@ pub head-room : (s : Settings) (c p : ℕ) (d : List ℕ) → first (head-rows s
 unfolding head-rows
 head-room s c p d e = ltb-false (length d) 8 (none-holds 1 _ _ (none-holds 0 _ _ e .1) .0)
 
-pub none-refused : (s : Settings) (c p : ℕ) (d : List ℕ) → in-range s ≡ true → c < 2 ^ 24 → p < 2 ^ 11 → 8 ≤ length d
+pub none-refused : (s : Settings) (c p : ℕ) (d : List ℕ) → in-range s ≡ true → c < 2 ^ count-width (s .link) → p < 2 ^ 11 → 8 ≤ length d
     → first (head-rows s c p d) ≡ 0
-unfolding first head-rows count-width
-none-refused s c p d e h k r = rw (e, lt-ltb c (2 ^ 24) h, lt-ltb p (2 ^ 11) k, le-ltb (length d) 8 r) refl
+unfolding first head-rows
+none-refused s c p d e h k r = rw (e, lt-ltb c (2 ^ count-width (s .link)) h, lt-ltb p (2 ^ 11) k, le-ltb (length d) 8 r) refl

@@ -13,12 +13,13 @@ use Rattle.octets.specs.Basics.{field, placed, number, octets, read, write, fir
 use Rattle.octets.proofs.Fields.{placed-read, placed-below, placed-lt, placed-within, field-lt, agree-on, foot-read, foot-above, foot-lt, foot-only}
 use Rattle.octets.proofs.Numbers.{Octets, number-octets, octets-again, run-lt}
 use Rattle.octets.proofs.Written.{length-octets}
-use Rattle.frames.specs.Link.{head-word, headers, primary, zone-head, version-place, spacecraft-place, channel-place, count-place, replay-place, spare-place}
+use Rattle.frames.specs.Link.{head-word, headers, primary, zone-head, version-place, spacecraft-place, channel-place, count-place, replay-place, spare-place, count-width}
 use Rattle.frames.specs.Frame.{in-range, frame-length, frame-rows, zone-of, version, spacecraft, channel, count, replay, spare, zone-spare, zone-spare-place, pointer, pointer-place, pointer-word, head}
 use Rattle.frames.specs.declared.Link.{Link}
 use Rattle.frames.specs.declared.Settings.{Settings}
 use Rattle.frames.proofs.Rows.{SoundHeader, sound-frame}
 use Rattle.frames.proofs.Settled.{Linked, Settled, settled}
+use Rattle.frames.proofs.Wheel.{count-lt}
 
 -- the word of the frame's own header, as its fields are put in one after the other
 module _ (l : Link) (c r : ℕ) where
@@ -79,7 +80,8 @@ module _ (l : Link) (c r : ℕ) where
       ∙ placed-read counted 32 6 (l .channel) counted-lt (omega arith)
       ∙ mod-eq-of-lt (omega arith)
 
-  pub count-written : c < 2 ^ 24 → read count-place (head-word l c r) ≡ c
+  pub count-written : c < 2 ^ count-width l → read count-place (head-word l c r) ≡ c
+  unfolding count-width
   count-written h =
       under-channel 8 24 (omega arith) ∙ placed-read flagged 8 24 c flagged-lt (omega arith) ∙ mod-eq-of-lt h
 
@@ -141,7 +143,7 @@ word-by-fields l w h v sc ch sp scl chl =
     let none : w % 2 ^ 0 ≡ b % 2 ^ 0 = mod-one w ∙ sym (mod-one b) in
     let spare : w % 2 ^ 7 ≡ b % 2 ^ 7 = agree-on w b 0 7 none (sp ∙ sym (spare-written l c r)) in
     let replay : w % 2 ^ 8 ≡ b % 2 ^ 8 = agree-on w b 7 1 spare (sym (replay-written l c r (field-lt w 7 1))) in
-    let count : w % 2 ^ 32 ≡ b % 2 ^ 32 = agree-on w b 8 24 replay (sym (count-written l c r (field-lt w 8 24))) in
+    let count : w % 2 ^ 32 ≡ b % 2 ^ 32 = agree-on w b 8 24 replay (sym (count-written l c r (count-lt l w))) in
     let channel : w % 2 ^ 38 ≡ b % 2 ^ 38 = agree-on w b 32 6 count (ch ∙ sym (channel-written l c r chl)) in
     let craft : w % 2 ^ 46 ≡ b % 2 ^ 46 = agree-on w b 38 8 channel (sc ∙ sym (spacecraft-written l c r scl)) in
     let version : w % 2 ^ 48 ≡ b % 2 ^ 48 = agree-on w b 46 2 craft (v ∙ sym (version-written l c r)) in
@@ -195,7 +197,7 @@ pub length-head : (s : Settings) (c p : ℕ) → length (head s c p) ≡ 8
 unfolding head
 length-head s c p = length-headers (s .link) c 0 (pointer-word p)
 
-module _ (s : Settings) (range : Settled s) (c p : ℕ) (wheel : c < 2 ^ 24) (short : p < 2 ^ 11) (f : List ℕ) (headed : take 8 f ≡ head s c p) where
+module _ (s : Settings) (range : Settled s) (c p : ℕ) (wheel : c < 2 ^ count-width (s .link)) (short : p < 2 ^ 11) (f : List ℕ) (headed : take 8 f ≡ head s c p) where
   primary-read : primary (s .link) f ≡ head-word (s .link) c 0
   unfolding head
   primary-read = primary-written (s .link) c 0 (pointer-word p) f headed

@@ -1,11 +1,15 @@
 -- The wheel of a count, over any width: differences that wrap at a word's width, and then at the wheel's.
 -- Assumes nothing.
-use mathlib.Core.Path.{_≡_, sym, ap, _∙_}
+use mathlib.Core.Logic.{_↔_}
+use mathlib.Core.Path.{_≡_, refl, sym, ap, _∙_}
 use Prim.Native.Nat.{ℕ, _+_, _-_, _*_, _/_, _%_, _^_, _≤_, _<_}
-use native.Mathlib.Nat.{mod-add-mod, mod-lt, div-add-mod', add-mul-mod-self-right, add-mul}
+use native.Mathlib.Nat.{add-comm, mod-add-mod, mod-lt, mod-eq-of-lt, zero-mod, div-add-mod', add-mul-mod-self-right, add-mul}
 use native.Mathlib.Omega.{arith}
 use lib.Pow.{pow-pos, mod-mod-pow}
-use Rattle.frames.specs.Link.{missing}
+use Rattle.octets.specs.Basics.{read}
+use Rattle.octets.proofs.Fields.{field-lt}
+use Rattle.frames.specs.Link.{count-place, count-width, next-count, missing}
+use Rattle.frames.specs.declared.Link.{Link}
 
 -- on a wheel of m places, r before c and one past `last`
 turned : (m last c r : ℕ) → 0 < m → (r + 1 + last) % m ≡ c % m → r % m ≡ (c + m - (last % m + 1)) % m
@@ -25,3 +29,44 @@ missing-wraps bits width last c d r h p q =
     let w : (r + 1 + last) % 2 ^ bits ≡ c = sym (mod-add-mod (r + 1) (2 ^ bits) last) ∙ ap (λ (x : ℕ). (x + last) % 2 ^ bits) q ∙ p in
     turned (2 ^ width) last c r (pow-pos width)
     (sym (mod-mod-pow (r + 1 + last) (bits - width) width) ∙ ap (λ (k : ℕ). (r + 1 + last) % 2 ^ k % 2 ^ width) (sym e) ∙ ap (λ (x : ℕ). x % 2 ^ width) w)
+
+-- c comes after `last`, the frames that are missing and one more
+after-missing : (width last c : ℕ) → (missing width last c + (last + 1)) % 2 ^ width ≡ c % 2 ^ width
+unfolding missing
+after-missing width last c =
+    let m : ℕ = 2 ^ width in
+    let t : last % m < m = mod-lt last (pow-pos width) in
+    let e : c + m - (last % m + 1) + (last + 1) ≡ c + (last / m + 1) * m =
+    omega (arith, div-add-mod' last m, add-mul (last / m) 1 m) in
+    mod-add-mod (c + m - (last % m + 1)) m (last + 1) ∙ ap (λ (x : ℕ). x % m) e ∙ add-mul-mod-self-right c (last / m + 1) m
+
+-- no frame is missing where the count is the next one, and nowhere else
+pub none-missing : (width last c : ℕ) → c < 2 ^ width → (missing width last c ≡ 0) ↔ (c ≡ next-count width last)
+unfolding next-count
+none-missing width last c small = (
+  (λ e.
+      let one-on : last + 1 ≡ missing width last c + (last + 1) = omega arith in
+      sym (ap (λ (k : ℕ). k % 2 ^ width) one-on ∙ after-missing width last c ∙ mod-eq-of-lt small)),
+  (λ e.
+      let next : (1 % 2 ^ width + last) % 2 ^ width ≡ c =
+      mod-add-mod 1 (2 ^ width) last ∙ ap (λ (k : ℕ). k % 2 ^ width) (add-comm 1 last) ∙ sym e in
+      sym (missing-wraps width width last c (1 % 2 ^ width) 0 (omega arith) next refl) ∙ zero-mod (2 ^ width)),
+)
+
+-- the count before c: as many frames are missing after 0
+abbrev pub count-before : ℕ → ℕ → ℕ
+count-before width c = missing width 0 c
+
+pub before-on-wheel : (width c : ℕ) → count-before width c < 2 ^ width
+unfolding missing
+before-on-wheel width c = mod-lt (c + 2 ^ width - (0 % 2 ^ width + 1)) (pow-pos width)
+
+pub follows-before : (width c : ℕ) → c < 2 ^ width → missing width (count-before width c) c ≡ 0
+unfolding next-count
+follows-before width c small =
+    none-missing width (count-before width c) c small .1 (sym (after-missing width 0 c ∙ mod-eq-of-lt small))
+
+-- a count that is read is on the wheel
+pub count-lt : (l : Link) (word : ℕ) → read count-place word < 2 ^ count-width l
+unfolding count-width
+count-lt l word = field-lt word 8 24

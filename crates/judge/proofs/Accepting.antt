@@ -18,7 +18,7 @@ use Rattle.judge.specs.Calls.{most-frames, tally-of, judge-reachable, fr
 use Rattle.judge.specs.Trials.{Tries}
 use Rattle.judge.specs.declared.Judge.{Judge}
 use Rattle.judge.specs.declared.Judge.the-variants.{Open, Sound}
-use Rattle.judge.proofs.Opening.{before-on-wheel, ready}
+use Rattle.judge.proofs.Opening.{ready, ready-on-wheel}
 
 pub record Accepts (s : Settings) (store : List ℕ) (j : Judge) : Type 0 where
   pub ranged : in-range s ≡ true
@@ -62,5 +62,5 @@ open-tries {s} {store} c a = record {
   last = _;
   held = 0;
   between = refl;
-  reached = and-both (before-on-wheel s c) (holds-none s store);
+  reached = and-both (ready-on-wheel s c) (holds-none s store);
 }

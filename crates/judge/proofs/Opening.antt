@@ -10,10 +10,11 @@ use borrow.Author.Tests.{eqb-true, ltb-true, lt-ltb}
 use Rattle.octets.specs.Basics.{first}
 use Rattle.octets.proofs.Tests.{test}
 use Rattle.frames.specs.Frame.{frame-rows, count, heading}
-use Rattle.frames.specs.Link.{count-width, missing}
+use Rattle.frames.specs.Link.{primary, count-width}
 use Rattle.frames.specs.declared.Heading.{Heading}
 use Rattle.frames.specs.declared.Settings.{Settings}
 use Rattle.frames.proofs.Accepted.{accepted-heading}
+use Rattle.frames.proofs.Wheel.{count-before, before-on-wheel, count-lt, follows-before}
 use Rattle.extractor.specs.Extract.{lost-since, reason-of, step-of, take-in}
 use Rattle.extractor.specs.Records.{on-wheel, stands-for, enter}
 use Rattle.extractor.specs.declared.Extractor.{Extractor}
@@ -23,31 +24,21 @@ use Rattle.judge.specs.Judge.{opened, faulty-entry}
 use Rattle.judge.specs.Calls.{try-frame}
 use Rattle.judge.proofs.Faults.{refused-faulty}
 
--- the count before c: as many frames are missing after 0
-abbrev pub count-before : Settings → ℕ → ℕ
-count-before s c = missing (count-width (s .link)) 0 c
-
-pub before-on-wheel : (s : Settings) (c : ℕ) → on-wheel s (count-before s c) ≡ true
-unfolding missing count-width
-before-on-wheel s c = lt-ltb (missing 24 0 c) (2 ^ 24) (omega arith)
-
--- nothing is missing after it
-pub none-missing : (s : Settings) (c : ℕ) → on-wheel s c ≡ true → missing (count-width (s .link)) (count-before s c) c ≡ 0
-unfolding missing count-width
-none-missing s c wheel = omega (arith, ltb-true c (2 ^ 24) wheel)
-
 -- the record that a first frame is entered from
 abbrev pub ready : Settings → ℕ → Extractor
-ready s c = InStep (count-before s c) 0
+ready s c = InStep (count-before (count-width (s .link)) c) 0
+
+pub ready-on-wheel : (s : Settings) (c : ℕ) → on-wheel s (count-before (count-width (s .link)) c) ≡ true
+ready-on-wheel s c = lt-ltb (count-before (count-width (s .link)) c) (2 ^ count-width (s .link)) (before-on-wheel (count-width (s .link)) c)
 
 module _ (s : Settings) (store f : List ℕ) where
   pub says-as-opened : take-in s (stands-for store (ready s (count s f))) f ≡ take-in s opened f
   unfolding stands-for take-in step-of reason-of lost-since
-  says-as-opened = rw (none-missing s (count s f) (count-on-wheel s f)) refl
+  says-as-opened = rw (follows-before (count-width (s .link)) (count s f) (count-lt (s .link) (primary (s .link) f))) refl
 
   enters-as-opened : enter s (stands-for store (ready s (count s f))) f ≡ enter s opened f
   unfolding stands-for enter step-of reason-of lost-since
-  enters-as-opened = rw (none-missing s (count s f) (count-on-wheel s f)) refl
+  enters-as-opened = rw (follows-before (count-width (s .link)) (count s f) (count-lt (s .link) (primary (s .link) f))) refl
 
   pub well-opened : try-frame s 0 (stands-for store (ready s (count s f))) store f ≡ try-frame s 0 opened store f
   unfolding try-frame faulty-entry

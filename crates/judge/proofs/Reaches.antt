@@ -4,14 +4,14 @@ use mathlib.Core.Path.{_≡_, refl, sym, ap, _∙_, subst}
 use mathlib.Core.List.{List, [], _∷_, _++_}
 use mathlib.Core.Option.{some}
 use mathlib.Core.Bool.{true, false}
-use Prim.Native.Nat.{ℕ, zero, suc, _+_, _-_, _*_, _≤_, _<_}
+use Prim.Native.Nat.{ℕ, zero, suc, _+_, _-_, _*_, _^_, _≤_, _<_}
 use native.Mathlib.Nat.{add-mul}
 use native.Mathlib.Numerals.{add-one}
 use native.Mathlib.Omega.{arith}
 use lib.ListN.{length, take, drop, replicate, length-append, length-drop, length-replicate}
 use lib.Seq.{length-take-le, take-add, drop-drop}
 use lib.Dec.{leb, eqb}
-use borrow.Author.Tests.{leb-true, leb-false, le-leb, eqb-true, eqb-false, ne-eqb}
+use borrow.Author.Tests.{leb-true, leb-false, le-leb, ltb-true, eqb-true, eqb-false, ne-eqb}
 use Rattle.octets.specs.Basics.{AllOctets, field, first}
 use Rattle.octets.proofs.Choices.{and-true}
 use Rattle.octets.proofs.Fronts.{all-take, all-drop, all-append}
@@ -23,6 +23,7 @@ use Rattle.frames.specs.declared.Settings.{Settings}
 use Rattle.frames.proofs.Accepted.{length-zone}
 use Rattle.frames.proofs.Framed.{framed, framed-is, pointer-inside, pointer-beyond}
 use Rattle.frames.proofs.Settled.{settled}
+use Rattle.frames.proofs.Wheel.{count-before, follows-before}
 use Rattle.extractor.specs.Extract.{State, in-step, any-torn, agreed, reason-by, reason-in, lost-since}
 use Rattle.extractor.specs.Records.{unfinished, holds-well, on-wheel, reachable, is-entered, stands-for, set-off, set-out, enter, steps-to, handed-over, step-look, step, step-call, shown}
 use Rattle.extractor.specs.Calls.{event-at, Finds, steps}
@@ -41,7 +42,7 @@ use Rattle.judge.specs.declared.Judge.the-variants.{Open, Sound, Faulty}
 use Rattle.judge.proofs.Accepting.{Accepts, accepts}
 use Rattle.judge.proofs.Advances.{sound-reach, SoundReach, fault-before, judge-advances}
 use Rattle.judge.proofs.Faults.{Enters, entered-faultless, step-kept}
-use Rattle.judge.proofs.Opening.{count-before, before-on-wheel, none-missing}
+use Rattle.judge.proofs.Opening.{ready-on-wheel}
 use Rattle.judge.proofs.Runs.{frame-answered}
 
 -- ---- what calls lead to passes the test
@@ -206,9 +207,9 @@ module _ (s : Settings) (store : List ℕ) (ok : in-range s ≡ true) (room : s 
   led-next : (n : ℕ) → n < most-frames → LedSound n → LedSound (n + 1)
   unfolding judge-frame lost-since stands-for unfinished look
   led-next n few earlier c h wheel short fits begun =
-      let last : ℕ = count-before s c in
-      let last-wheel : on-wheel s last ≡ true = before-on-wheel s c in
-      let lost = none-missing s c wheel in
+      let last : ℕ = count-before (count-width (s .link)) c in
+      let last-wheel : on-wheel s last ≡ true = ready-on-wheel s c in
+      let lost = follows-before (count-width (s .link)) c (ltb-true c (2 ^ count-width (s .link)) wheel) in
       test (leb h (s .zone))
       (λ t. led-by (Sound n last 0) (beginning c h) (all-beginning c h) few
       (tried-beginning n c h (stands-for store (InStep last 0)) refl lost wheel (leb-true h (s .zone) t) begun)

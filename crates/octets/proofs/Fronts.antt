@@ -2,12 +2,12 @@
 -- Assumes nothing.
 use mathlib.Core.Path.{_≡_, sym, ap, _∙_}
 use mathlib.Core.List.{List, [], _∷_, _++_, append-assoc}
-use Prim.Native.Nat.{ℕ, zero, suc, _+_, _-_, _/_, _^_, _≤_}
+use Prim.Native.Nat.{ℕ, zero, suc, _+_, _-_, _/_, _^_, _≤_, _<_}
 use native.Mathlib.Nat.{mod-lt}
 use native.Mathlib.Omega.{arith}
 use lib.ListN.{replicate, length, take, drop, length-append, length-drop}
 use lib.Seq.{take-append-le, length-take-le, drop-append-le, drop-append-add, drop-drop}
-use Rattle.octets.specs.Basics.{AllOctets, octets, over, part}
+use Rattle.octets.specs.Basics.{All, AllOctets, octets, over, part}
 
 -- what is written over a buffer, with what stands before it, is its new front
 pub over-front : (buffer : List ℕ) (at : ℕ) (os : List ℕ) → at ≤ length buffer
@@ -46,9 +46,12 @@ all-drop zero os small = small
 all-drop (suc n) [] small = tt
 all-drop (suc n) (o ∷ os) small = all-drop n os (small .1)
 
+pub all-joined {ℓ} : {A : Type ℓ} (P : A → Type 0) (xs ys : List A) → All P xs → All P ys → All P (xs ++ ys)
+all-joined P [] ys h k = k
+all-joined P (x ∷ xs) ys h k = (h .0, all-joined P xs ys (h .1) k)
+
 pub all-append : (xs ys : List ℕ) → AllOctets xs → AllOctets ys → AllOctets (xs ++ ys)
-all-append [] ys small smaller = smaller
-all-append (x ∷ xs) ys small smaller = (small .0, all-append xs ys (small .1) smaller)
+all-append = all-joined (λ o. o < 256)
 
 pub all-zeros : (n : ℕ) → AllOctets (replicate n 0)
 all-zeros zero = tt

@@ -5,6 +5,7 @@ use native.Mathlib.Omega.{arith}
 use lib.ListN.{length}
 use borrow.Author.Needs.{needs}
 use Rattle.octets.specs.Basics.{first}
+use Rattle.frames.specs.Link.{count-width}
 use Rattle.frames.proofs.bits.Settled.{bits-settled}
 use Rattle.bitstream.specs.Bitstream.{write-rows}
 use Rattle.bitstream.proofs.Answers.{write-refused}
@@ -46,6 +47,7 @@ lay-bits-requires c κs =
     }
 
 returns-2 : tie.Need-returns-2
+unfolding count-width
 returns-2 c =
     let at-lay = c .before .before .before in
     let at-head = at-lay .before .before .before .before in

@@ -19,10 +19,10 @@ use Rattle.frames.proofs.Rows.{SoundHeader, sound-header, header-taken}
 use Rattle.frames.proofs.ReadBack.{length-headers, primary-written, zone-head-written, version-written, spacecraft-written, channel-written, count-written, replay-written, spare-written, headers-again}
 use Rattle.frames.proofs.bits.Settled.{BitsSettled}
 
-pub bit-head-taken : (s : BitSettings) (c p : ℕ) (d : List ℕ) → bits-in-range s ≡ true → c < 2 ^ 24 → p < 2 ^ 14 → 8 ≤ length d
+pub bit-head-taken : (s : BitSettings) (c p : ℕ) (d : List ℕ) → bits-in-range s ≡ true → c < 2 ^ count-width (s .link) → p < 2 ^ 14 → 8 ≤ length d
     → first (bit-head-rows s c p d) ≡ 0
-unfolding first bit-head-rows count-width
-bit-head-taken s c p d e h k r = rw (e, lt-ltb c (2 ^ 24) h, lt-ltb p (2 ^ 14) k, le-ltb (length d) 8 r) refl
+unfolding first bit-head-rows
+bit-head-taken s c p d e h k r = rw (e, lt-ltb c (2 ^ count-width (s .link)) h, lt-ltb p (2 ^ 14) k, le-ltb (length d) 8 r) refl
 
 pub length-bit-head : (s : BitSettings) (c p : ℕ) → length (bit-head s c p) ≡ 8
 unfolding bit-head
@@ -30,7 +30,7 @@ length-bit-head s c p = length-headers (s .link) c 0 (bit-pointer-word p)
 
 -- ---- a frame that begins with its written head is read back
 
-module _ (s : BitSettings) (range : BitsSettled s) (c p : ℕ) (wheel : c < 2 ^ 24) (short : p < 2 ^ 14) (f : List ℕ) (headed : take 8 f ≡ bit-head s c p) where
+module _ (s : BitSettings) (range : BitsSettled s) (c p : ℕ) (wheel : c < 2 ^ count-width (s .link)) (short : p < 2 ^ 14) (f : List ℕ) (headed : take 8 f ≡ bit-head s c p) where
   primary-read : primary (s .link) f ≡ head-word (s .link) c 0
   unfolding bit-head
   primary-read = primary-written (s .link) c 0 (bit-pointer-word p) f headed

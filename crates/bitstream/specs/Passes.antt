@@ -1,12 +1,9 @@
--- Sample pass 13, by computing: zones of one octet with 7 and with 8 bits, and what their pointers say.
+-- Sample pass 13: zones of one octet with 7 and with 8 bits, and what their pointers say.
 -- Assumes nothing.
-use mathlib.Core.Path.{_≡_, refl}
+use mathlib.Core.Path.{_≡_}
 use mathlib.Core.List.{[], _∷_}
-use Rattle.octets.specs.Basics.{octets, join, placed}
-use Rattle.frames.specs.Link.{head-word, headers}
-use Rattle.frames.specs.BitFrame.{bit-head}
 use Rattle.frames.specs.declared.bits.BitSettings.{BitSettings}
-use Rattle.bitstream.specs.Bitstream.{octets-for, pointer-for, valid-bits, mixed, last-octet, zone-with, frame-with}
+use Rattle.bitstream.specs.Bitstream.{pointer-for, valid-bits, frame-with}
 
 -- W = 1, filled with 55
 abbrev one-octet : BitSettings
@@ -21,15 +18,3 @@ pub record Pass13 : Type 0 where
   pub seven-frame : frame-with one-octet 0 7 (254 ∷ []) ≡ 80 ∷ 131 ∷ 0 ∷ 0 ∷ 0 ∷ 0 ∷ 0 ∷ 6 ∷ 255 ∷ []
   pub eight-frame : frame-with one-octet 1 8 (254 ∷ []) ≡ 80 ∷ 131 ∷ 0 ∷ 0 ∷ 1 ∷ 0 ∷ 63 ∷ 255 ∷ 254 ∷ []
   pub fill-frame : frame-with one-octet 2 0 [] ≡ 80 ∷ 131 ∷ 0 ∷ 0 ∷ 2 ∷ 0 ∷ 63 ∷ 254 ∷ 85 ∷ []
-
-pub pass-13 : Pass13
-unfolding frame-with bit-head headers head-word octets placed join zone-with last-octet mixed octets-for pointer-for valid-bits
-pass-13 = record {
-  seven = refl;
-  eight = refl;
-  seven-back = refl;
-  eight-back = refl;
-  seven-frame = refl;
-  eight-frame = refl;
-  fill-frame = refl;
-}

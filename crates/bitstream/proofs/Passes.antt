@@ -1,0 +1,20 @@
+-- Sample pass 13, by computing.
+-- Assumes nothing.
+use mathlib.Core.Path.{refl}
+use Rattle.octets.specs.Basics.{octets, join, placed}
+use Rattle.frames.specs.Link.{head-word, headers}
+use Rattle.frames.specs.BitFrame.{bit-head}
+use Rattle.bitstream.specs.Bitstream.{octets-for, pointer-for, valid-bits, mixed, last-octet, zone-with, frame-with}
+use Rattle.bitstream.specs.Passes.{Pass13}
+
+pub pass-13 : Pass13
+unfolding frame-with bit-head headers head-word octets placed join zone-with last-octet mixed octets-for pointer-for valid-bits
+pass-13 = record {
+  seven = refl;
+  eight = refl;
+  seven-back = refl;
+  eight-back = refl;
+  seven-frame = refl;
+  eight-frame = refl;
+  fill-frame = refl;
+}
