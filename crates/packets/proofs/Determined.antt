@@ -5,6 +5,7 @@ use mathlib.Core.List.{List}
 use Prim.Native.Nat.{ℕ}
 use lib.Dec.{eqb}
 use Rattle.octets.specs.Basics.{pick}
+use Rattle.octets.proofs.Tests.{told-apart}
 use Rattle.packets.specs.declared.Kind.{Kind}
 use Rattle.packets.specs.declared.Header.{Header}
 use Rattle.packets.specs.declared.wrapping.Wrapped.{Wrapped}
@@ -13,11 +14,6 @@ use Rattle.packets.specs.declared.space.SpaceRead.{SpaceRead}
 use Rattle.packets.specs.Header.{Reading, answer, version-of}
 use Rattle.packets.specs.Wrap.{Wrapping, wraps, Unwrapping, unwraps}
 use Rattle.packets.specs.Space.{SpaceReading, space-reads}
-
--- what is told apart by numbers that can be taken back is determined by them
-told-apart {ℓ ℓ′} : {A : Type ℓ} {B : Type ℓ′} (f : A → B) (back : B → A) → ((a : A) → back (f a) ≡ a)
-    → {a b : A} {x : B} → f a ≡ x → f b ≡ x → a ≡ b
-told-apart f back undo {a} {b} p q = sym (undo a) ∙ ap back (p ∙ sym q) ∙ undo b
 
 header-back : Reading → Header
 header-back r =

@@ -1,23 +1,26 @@
 -- `frames::head_word` meets its contract: the fields are put in one after the other.
 -- Assumes nothing.
-use borrow.Author.Needs.{needs}
+use mir.Facts.{fits-32-64}
 use Rattle.frames.specs.Link.{head-word}
 use Rattle.frames.proofs.head_word.Statement.{statement}
 use Rattle.frames.proofs.head_word.Tie as tie
 
 returns : tie.Need-returns
 unfolding head-word
-returns c = cc
+returns c =
+    let at-placed3 = c .before .before .before in
+    let at-placed2 = at-placed3 .before .before in
+    rw (c .placed5 .ensures, c .before .placed4 .ensures, at-placed3 .placed3 .ensures, at-placed2 .placed2 .ensures, at-placed2 .before .placed .ensures)
 
 pub head-word-spec : {M : Type 1} → statement M
 head-word-spec =
     tie.close
     (tie.spec
-    (λ c κs. search needs)
-    (λ c κs. search needs)
-    (λ c. search needs)
-    (λ c κs. search needs)
-    (λ c. search needs)
-    (λ c κs. search needs)
-    (λ c κs. search needs)
+    (λ c κs. tt)
+    (λ c κs. tt)
+    (λ c. fits-32-64 (c .struct-known .given .1 .0))
+    (λ c κs. tt)
+    (λ c. fits-32-64 (c .struct-known2 .given .0))
+    (λ c κs. tt)
+    (λ c κs. tt)
     returns)

@@ -1,5 +1,9 @@
 -- `packets::encapsulation` meets its contract: at each return the tests on the way say which case of the definition holds.
 -- Assumes nothing.
+use mathlib.Core.Path.{sym, ap, _∙_}
+use Prim.Native.Nat.{ℕ}
+use lib.ListN.{length}
+use Rattle.packets.specs.Packet.{header-length, counted, encapsulation}
 use Rattle.packets.specs.Header.{seen}
 use Rattle.packets.proofs.Looks.{none-read, none-damaged, half-read}
 use borrow.Author.Needs.{needs}
@@ -8,21 +12,25 @@ use Rattle.packets.proofs.encapsulation.Tie as tie
 
 returns : tie.Need-returns
 returns c =
-    let at-if1 = c .before .before .before in
+    let at-size = c .before .before in
+    let at-if1 = at-size .before in
     let a = at-if1 .before .before .args in
-    cc (half-read (a .limit) (a .octets .now) (a .protocol) (a .lol) (at-if1 .if1 .taken))
+    c .counted .ensures
+    ∙ ap (λ (n : ℕ). counted (a .limit) (length (a .octets .now)) n (c .before .stated .result)) (at-size .header-length .ensures)
+    ∙ ap (counted (a .limit) (length (a .octets .now)) (header-length (a .lol))) (c .before .stated .ensures)
+    ∙ sym (half-read (a .limit) (a .octets .now) (a .protocol) (a .lol) (at-if1 .if1 .taken))
 
 returns-2 : tie.Need-returns-2
 unfolding seen
 returns-2 c =
     let a = c .before .before .before .args in
-    cc (none-read (a .limit) (a .octets .now) (a .protocol) (c .if2 .taken))
+    sym (ap (λ (n : ℕ). encapsulation (a .limit) (a .protocol) n (a .octets .now)) (c .before .if1 .left) ∙ none-read (a .limit) (a .octets .now) (a .protocol) (c .if2 .taken))
 
 returns-3 : tie.Need-returns-3
 unfolding seen
 returns-3 c =
     let a = c .before .before .before .args in
-    cc (none-damaged (a .limit) (a .octets .now) (a .protocol) (c .if2 .left))
+    sym (ap (λ (n : ℕ). encapsulation (a .limit) (a .protocol) n (a .octets .now)) (c .before .if1 .left) ∙ none-damaged (a .limit) (a .octets .now) (a .protocol) (c .if2 .left))
 
 pub encapsulation-spec : {M : Type 1} → statement M
 encapsulation-spec =

@@ -1,6 +1,9 @@
 -- `packets::look_on` meets its contract: at each return the tests on the way say which case of the definition holds.
 -- Assumes nothing.
-use mathlib.Core.Path.{_∙_}
+use mathlib.Core.Path.{sym, ap, _∙_}
+use Prim.Native.Nat.{ℕ, _+_}
+use lib.ListN.{length, getD}
+use Rattle.packets.specs.Packet.{counted, encapsulation, protocol-of}
 use Rattle.packets.specs.Header.{seen}
 use Rattle.packets.proofs.Looks.{look-none, look-space, look-encapsulation, look-other}
 use borrow.Author.Needs.{needs}
@@ -11,19 +14,27 @@ returns : tie.Need-returns
 unfolding seen
 returns c =
     let a = c .before .before .args in
-    cc (look-none (a .limit) (a .octets .now) (c .if1 .taken))
+    sym (look-none (a .limit) (a .octets .now) (c .if1 .taken))
 
 returns-2 : tie.Need-returns-2
 returns-2 c =
-    let at-if1 = c .before .before .before .before in
+    let at-version = c .before .before .before in
+    let at-if1 = at-version .before in
     let a = at-if1 .before .before .args in
-    cc (look-space (a .limit) (a .octets .now) (at-if1 .if1 .left) (cc))
+    c .counted .ensures
+    ∙ ap (λ (n : ℕ). counted (a .limit) (length (a .octets .now)) 6 (n + 7)) (c .before .number2 .ensures)
+    ∙ sym (look-space (a .limit) (a .octets .now) (at-if1 .if1 .left) (sym (at-version .version .ensures) ∙ c .before .before .if2 .taken))
 
 returns-3 : tie.Need-returns-3
 returns-3 c =
-    let at-if1 = c .before .before .before .before .before .before in
+    let at-if3 = c .before .before .before in
+    let at-version = at-if3 .before .before in
+    let at-if1 = at-version .before in
     let a = at-if1 .before .before .args in
-    cc (look-encapsulation (a .limit) (a .octets .now) (at-if1 .if1 .left) (cc))
+    c .encapsulation .ensures
+    ∙ ap (λ (p : ℕ). encapsulation (a .limit) p (c .before .length-of-length .result) (a .octets .now)) (c .before .before .protocol .ensures)
+    ∙ ap (λ (n : ℕ). encapsulation (a .limit) (protocol-of (getD (a .octets .now) 0 0)) n (a .octets .now)) (c .before .length-of-length .ensures)
+    ∙ sym (look-encapsulation (a .limit) (a .octets .now) (at-if1 .if1 .left) (sym (at-version .version .ensures) ∙ at-if3 .if3 .taken))
 
 returns-4 : tie.Need-returns-4
 unfolding seen
@@ -32,7 +43,7 @@ returns-4 c =
     let at-if1 = at-version .before in
     let a = at-if1 .before .before .args in
     let v = at-version .version .ensures in
-    cc (look-other (a .limit) (a .octets .now) (at-if1 .if1 .left) (λ e. c .before .if2 .left (v ∙ e)) (λ e. c .if3 .left (v ∙ e)))
+    sym (look-other (a .limit) (a .octets .now) (at-if1 .if1 .left) (λ e. c .before .if2 .left (v ∙ e)) (λ e. c .if3 .left (v ∙ e)))
 
 pub look-on-spec : {M : Type 1} → statement M
 look-on-spec =

@@ -1,6 +1,8 @@
 -- `packets::octet_field` meets its contract: a field of an octet is an octet.
 -- Assumes nothing.
+use mathlib.Core.Path.{ap, _∙_}
 use native.Mathlib.Omega.{arith}
+use Rattle.octets.specs.Basics.{read}
 use Rattle.octets.proofs.Fields.{field-le}
 use borrow.Author.Needs.{needs}
 use Rattle.packets.proofs.octet_field.Statement.{statement}
@@ -10,7 +12,7 @@ cast-result : tie.Need-cast-result
 cast-result c = omega (arith, field-le (c .before .octet .result) (c .before .before .before .args .at .below) (c .before .before .before .args .at .width))
 
 returns : tie.Need-returns
-returns c = cc
+returns c = c .field .ensures ∙ ap (read (c .before .before .before .args .at)) (c .before .octet .ensures)
 
 pub octet-field-spec : {M : Type 1} → statement M
 octet-field-spec =

@@ -1,7 +1,8 @@
 -- `packets::front::first_octet` meets its contract: three fields, placed one after the other.
 -- Assumes nothing.
-use mathlib.Core.Path.{_≡_, sym, subst}
+use mathlib.Core.Path.{_≡_, sym, ap, subst, _∙_}
 use Prim.Native.Nat.{ℕ, _<_}
+use Rattle.octets.specs.Basics.{placed}
 use Rattle.packets.specs.Front.{first-octet}
 use Rattle.packets.proofs.Fronts.{first-octet-lt}
 use borrow.Author.Needs.{needs}
@@ -11,7 +12,10 @@ use Rattle.packets.proofs.front.first_octet.Tie as tie
 -- what is placed last
 octet : (c : tie.After-placed3) → c .placed3 .result ≡ first-octet (c .before .before .before .args .protocol) (c .before .before .before .args .lol)
 unfolding first-octet
-octet c = cc
+octet c =
+    let a = c .before .before .before .args in
+    c .placed3 .ensures
+    ∙ ap (λ (word : ℕ). placed word 0 2 (a .lol)) (c .before .placed2 .ensures ∙ ap (λ (word : ℕ). placed word 2 3 (a .protocol)) (c .before .before .placed .ensures))
 
 cast-result : tie.Need-cast-result
 cast-result c =

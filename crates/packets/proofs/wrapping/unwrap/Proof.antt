@@ -1,25 +1,43 @@
 -- `packets::wrapping::unwrap` meets its contract: a refusal, or what the header says.
 -- Assumes nothing.
-use Rattle.packets.specs.Wrap.{unwraps}
+use mathlib.Core.Path.{_≡_}
+use mathlib.Core.List.{List}
+use Prim.Native.Nat.{ℕ, _-_}
+use lib.ListN.{length, getD}
+use Rattle.octets.specs.Basics.{first}
+use Rattle.packets.specs.Packet.{protocol-of, header-length}
+use Rattle.packets.specs.Wrap.{its-lol, extension-of, unwrap-rows, unwrapping, unwraps}
+use Rattle.packets.specs.declared.wrapping.Unwrapped.{Unwrapped}
 use Rattle.packets.proofs.Wraps.{unwrapping-refused, unwrapping-done}
 use borrow.Author.Needs.{needs}
 use Rattle.packets.proofs.wrapping.unwrap.Statement.{statement}
 use Rattle.packets.proofs.wrapping.unwrap.Tie as tie
 
+-- what is answered, by what the calls give
+module _ (limit : ℕ) (p : List ℕ) {refusal : ℕ} (r : refusal ≡ first (unwrap-rows limit p)) where
+  refused : (refusal ≡ 0 → ⊥) → unwraps (Unwrapped.Refused refusal) ≡ unwrapping limit p
+  unfolding unwraps
+  refused h = cc (unwrapping-refused limit p (λ z. h (cc)))
+
+  done : refusal ≡ 0 → {lol start protocol extension size : ℕ} → lol ≡ its-lol p → start ≡ header-length lol → protocol ≡ protocol-of (getD p 0 0)
+      → extension ≡ extension-of p → size ≡ length p - start → unwraps (Unwrapped.Unit protocol extension start size) ≡ unwrapping limit p
+  unfolding unwraps
+  done h l s q e n = cc (unwrapping-done limit p (cc))
+
 returns : tie.Need-returns
-unfolding unwraps
 returns c =
     let a = c .before .before .before .args in
-    let r = c .before .unwrap-refusal .ensures in
-    cc (unwrapping-refused (a .limit) (a .p .now) (λ z. c .if1 .taken (cc)))
+    refused (a .limit) (a .p .now) (c .before .unwrap-refusal .ensures) (c .if1 .taken)
 
 returns-2 : tie.Need-returns-2
-unfolding unwraps
 returns-2 c =
-    let at-refusal = c .before .before .before .before .before .before in
+    let at-protocol = c .before .before in
+    let at-header = at-protocol .before in
+    let at-lol = at-header .before in
+    let at-refusal = at-lol .before .before in
     let a = at-refusal .before .before .args in
-    let r = at-refusal .unwrap-refusal .ensures in
-    cc (unwrapping-done (a .limit) (a .p .now) (cc))
+    done (a .limit) (a .p .now) (at-refusal .unwrap-refusal .ensures) (at-lol .before .if1 .left) (at-lol .length-of-length .ensures)
+    (at-header .header-length .ensures) (at-protocol .protocol .ensures) (c .before .extension .ensures) (c .less .ensures)
 
 pub unwrap-spec : {M : Type 1} → statement M
 unwrap-spec =

@@ -1,6 +1,5 @@
 -- `packets::wrapping::unwrap_refusal` meets its contract, row by row.
 -- Assumes nothing.
-use mathlib.Core.Path.{refl}
 use Rattle.octets.specs.Basics.{first}
 use Rattle.packets.specs.Wrap.{unwrap-rows}
 use borrow.Author.Needs.{needs}
@@ -23,7 +22,6 @@ returns c =
       at-header .before .before .protocol .ensures,
       at-header .before .before .before .extension .ensures,
     )
-    refl
 
 pub unwrap-refusal-spec : {M : Type 1} → statement M
 unwrap-refusal-spec =

@@ -1,50 +1,70 @@
 -- `packets::wrapping::wrap` meets its contract: a refusal, or the header and then the unit.
 -- Assumes nothing.
-use mathlib.Core.Path.{sym, ap, _∙_}
+use mathlib.Core.Path.{_≡_, sym, ap, _∙_}
+use mathlib.Core.List.{List}
+use Prim.Native.Nat.{ℕ, _+_, _≤_}
 use native.Mathlib.Omega.{arith}
 use lib.ListN.{length}
+use Rattle.octets.specs.Basics.{first, over, laid-part}
 use Rattle.packets.specs.Packet.{header-length}
-use Rattle.packets.specs.Wrap.{wrapped-total, wraps}
-use Rattle.packets.proofs.Wraps.{Admitted, admitted, wrapping-refused, wrapping-done, unit-written}
+use Rattle.packets.specs.Front.{front}
+use Rattle.packets.specs.Wrap.{lol-for, wrapped-total, wrap-rows, wrapping, wraps}
+use Rattle.packets.specs.declared.wrapping.Wrapped.{Wrapped}
+use Rattle.packets.proofs.Wraps.{admitted, wrapping-refused, wrapping-done, unit-written}
 use borrow.Author.Needs.{needs}
 use Rattle.packets.proofs.wrapping.wrap.Statement.{statement}
 use Rattle.packets.proofs.wrapping.wrap.Tie as tie
 
-returns : tie.Need-returns
-unfolding wraps
-returns c =
-    let a = c .before .before .before .before .before .args in
-    let e = c .before .before .wrapped-total .ensures in
-    let r = c .before .wrap-refusal .ensures in
-    cc (wrapping-refused (a .limit) (a .protocol) (a .extension) (a .unit .now) (a .out .now) (λ z. c .if1 .taken (cc)))
+-- what is answered, by what the calls give
+module _ (limit protocol extension : ℕ) (unit output : List ℕ) {total refusal : ℕ} (t : total ≡ wrapped-total protocol (length unit))
+    (r : refusal ≡ first (wrap-rows limit protocol extension (length unit) total (length output))) where
+  refused : (refusal ≡ 0 → ⊥) → wraps (Wrapped.Refused refusal) output ≡ wrapping limit protocol extension unit output
+  unfolding wraps
+  refused h = cc (wrapping-refused limit protocol extension unit output (λ z. h (cc)))
 
--- no row holds
-accepted : (c : tie.Else1) → Admitted (c .before .before .before .before .before .args .limit) (c .before .before .before .before .before .args .protocol)
-    (c .before .before .before .before .before .args .extension) (length (c .before .before .before .before .before .args .unit .now))
-    (c .before .before .wrapped-total .result) (length (c .before .before .before .before .before .args .out .now))
-accepted c = admitted _ _ _ _ _ _ (sym (c .before .wrap-refusal .ensures) ∙ c .if1 .left)
+  roomy : refusal ≡ 0 → total ≤ length output
+  roomy h = admitted limit protocol extension (length unit) total (length output) (sym r ∙ h) .roomy
+
+  header-fits : refusal ≡ 0 → {lol : ℕ} → lol ≡ lol-for protocol (length unit) → 0 + header-length lol ≤ length output
+  unfolding wrapped-total
+  header-fits h l = omega (arith, ap header-length l, roomy h)
+
+  done : refusal ≡ 0 → {lol size : ℕ} {begun written : List ℕ} → lol ≡ lol-for protocol (length unit) → size ≡ header-length lol
+      → begun ≡ over output 0 (front protocol extension lol total) → written ≡ laid-part begun size 0 (length unit) unit
+      → wraps (Wrapped.Total total) written ≡ wrapping limit protocol extension unit output
+  unfolding wraps
+  done h l s b w =
+      cc (wrapping-done limit protocol extension unit output (cc), unit-written protocol extension unit output (omega (arith, roomy h)))
+
+returns : tie.Need-returns
+returns c =
+    let at-total = c .before .before in
+    let a = at-total .before .before .before .args in
+    refused (a .limit) (a .protocol) (a .extension) (a .unit .now) (a .out .now)
+    (at-total .wrapped-total .ensures) (c .before .wrap-refusal .ensures) (c .if1 .taken)
 
 write-front-requires : tie.Need-write-front-requires
-unfolding wrapped-total
 write-front-requires c κs =
-    let at-lol = c .before in
-    let at-if1 = at-lol .before in
-    omega (arith, ap header-length (at-lol .lol-for .ensures), at-if1 .before .before .wrapped-total .ensures, accepted at-if1 .roomy)
-
-returns-2 : tie.Need-returns-2
-unfolding wraps
-returns-2 c =
-    let at-front = c .before .before .before .before .before .before .before in
-    let at-if1 = at-front .before .before .before in
+    let at-if1 = c .before .before in
     let at-refusal = at-if1 .before in
     let at-total = at-refusal .before in
     let a = at-total .before .before .before .args in
-    let e = at-total .wrapped-total .ensures in
-    let r = at-refusal .wrap-refusal .ensures in
-    cc (
-      wrapping-done (a .limit) (a .protocol) (a .extension) (a .unit .now) (a .out .now) (cc),
-      unit-written (a .protocol) (a .extension) (a .unit .now) (a .out .now) (omega (arith, accepted at-if1 .roomy)),
-    )
+    header-fits (a .limit) (a .protocol) (a .extension) (a .unit .now) (a .out .now)
+    (at-total .wrapped-total .ensures) (at-refusal .wrap-refusal .ensures) (at-if1 .if1 .left) (c .before .lol-for .ensures)
+
+returns-2 : tie.Need-returns-2
+returns-2 c =
+    let at-lay = c .before .before in
+    let at-header = at-lay .before in
+    let at-front = at-header .before .before .before .before in
+    let at-lol = at-front .before .before in
+    let at-if1 = at-lol .before in
+    let at-refusal = at-if1 .before in
+    let at-total = at-refusal .before in
+    let a = at-total .before .before .before .args in
+    done (a .limit) (a .protocol) (a .extension) (a .unit .now) (a .out .now)
+    (at-total .wrapped-total .ensures) (at-refusal .wrap-refusal .ensures) (at-if1 .if1 .left)
+    (at-lol .lol-for .ensures) (at-header .header-length .ensures) (at-front .write-front .ensures) (at-lay .lay .ensures)
 
 pub wrap-spec : {M : Type 1} → statement M
 wrap-spec =

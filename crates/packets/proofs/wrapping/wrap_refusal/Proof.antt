@@ -1,6 +1,5 @@
 -- `packets::wrapping::wrap_refusal` meets its contract, row by row.
 -- Assumes nothing.
-use mathlib.Core.Path.{refl}
 use Rattle.octets.specs.Basics.{first}
 use Rattle.packets.specs.Wrap.{wrap-rows}
 use borrow.Author.Needs.{needs}
@@ -12,7 +11,7 @@ unfolding wrap-rows first
 returns c =
     let at-range = c .before in
     let at-unit = at-range .before in
-    rw (c .refused3 .ensures, at-range .wrap-in-range .ensures, at-unit .refused2 .ensures, at-unit .before .refused .ensures) refl
+    rw (c .refused3 .ensures, at-range .wrap-in-range .ensures, at-unit .refused2 .ensures, at-unit .before .refused .ensures)
 
 pub wrap-refusal-spec : {M : Type 1} → statement M
 wrap-refusal-spec =

@@ -1,6 +1,10 @@
 -- `packets::wrapping::wrapped_total` meets its contract: the unit and its header.
 -- Assumes nothing.
+use mathlib.Core.Path.{ap, _∙_}
+use Prim.Native.Nat.{ℕ, _+_}
 use native.Mathlib.Omega.{arith}
+use lib.ListN.{length}
+use Rattle.packets.specs.Packet.{header-length}
 use Rattle.packets.specs.Wrap.{wrapped-total}
 use Rattle.packets.proofs.Sizes.{header-most}
 use borrow.Author.Needs.{needs}
@@ -12,7 +16,8 @@ add-result c = omega (arith, header-most (c .before .lol-for .result), c .before
 
 returns : tie.Need-returns
 unfolding wrapped-total
-returns c = cc
+returns c =
+    ap (λ (n : ℕ). length (c .before .before .before .args .unit .now) + n) (c .header-length .ensures ∙ ap header-length (c .before .lol-for .ensures))
 
 pub wrapped-total-spec : {M : Type 1} → statement M
 wrapped-total-spec =
