@@ -3,6 +3,7 @@ ghost use mathlib.Core.Path.{_≡_};
 ghost use Prim.Native.Nat.{_+_, _≤_};
 ghost use lib.ListN.{length, take, drop};
 ghost use Rattle.aosread.specs.Input.{Inside, unread as unread-in, StandFirst, Follows};
+use libc::STDERR_FILENO;
 use libc::STDIN_FILENO;
 use runfile::Reader;
 
@@ -37,6 +38,16 @@ fn to_front(buf: &mut [u8], from: usize, n: usize)
     }
 }
 
+// How many octets of a part a read has filled; standard error says so where it could not read.
+fn received(got: isize, part: &[u8]) -> usize
+    ensures { λ r. ⌜ r ≤ length (now (part .entry)) ⌝ }
+{
+    if got < 0 {
+        io::write_all(STDERR_FILENO, b"aosread: standard input cannot be read\n");
+    }
+    io::count(got, part)
+}
+
 // One read behind the buffer's first `to` octets: how many came, 0 where the input has ended or cannot be read.
 fn read_behind(buf: &mut [u8], to: usize) -> usize
     requires { ⌜ to ≤ length (now buf) ⌝ }
@@ -45,7 +56,7 @@ fn read_behind(buf: &mut [u8], to: usize) -> usize
 {
     let rest = &mut buf[to..];
     let got = libc::read(STDIN_FILENO, rest);
-    io::count(got, rest)
+    received(got, rest)
 }
 
 // Reads on until n octets are there or the input has ended.

@@ -12,6 +12,7 @@ use extractor::Found;
 use frames::Settings;
 use input::Unread;
 use judge::Judge;
+use libc::STDERR_FILENO;
 use libc::STDOUT_FILENO;
 use runfile::Reader;
 
@@ -31,11 +32,21 @@ struct Run {
     waiting: usize,
 }
 
+// Says on standard error that text is lost, where it was not written whole.
+fn complain(whole: bool) {
+    if !whole {
+        io::write_all(
+            STDERR_FILENO,
+            b"aosread: standard output cannot be written\n",
+        );
+    }
+}
+
 // Writes the text that waits.
 fn flush(out: &[u8], waiting: usize)
     requires { ⌜ waiting ≤ length (now out) ⌝ }
 {
-    io::write_all(STDOUT_FILENO, &out[..waiting]);
+    complain(io::write_all(STDOUT_FILENO, &out[..waiting]));
 }
 
 // Writes the text that waits where there is no room for another line behind it; what waits then.

@@ -10,4 +10,4 @@ slice-aggregate-write-all : tie.Need-slice-aggregate-write-all
 slice-aggregate-write-all c = sym (length-take-le _ _ (c .before .before .pre))
 
 pub flush-spec : {M : Type 1} → statement M
-flush-spec = tie.close (tie.spec slice-aggregate-write-all (λ c κs. search needs) (λ c. search needs))
+flush-spec = tie.close (tie.spec slice-aggregate-write-all (λ c κs. search needs) (λ c κs. search needs) (λ c. search needs))

@@ -14,7 +14,7 @@ returns c =
     let at-read = at-count .before .before .before .before in
     let at-start = at-read .before .before .before .before in
     let a = at-start .args in
-    (omega (arith, at-count .count .ensures .0 .0, c .before .rest4 .given), take-put (a .to) (length (a .buf .now) - a .to) (a .buf .now) (at-read .read .last .1 .0) (at-start .pre))
+    (omega (arith, at-count .received .ensures, c .before .rest4 .given), take-put (a .to) (length (a .buf .now) - a .to) (a .buf .now) (at-read .read .last .1 .0) (at-start .pre))
 
 pub read-behind-spec : {M : Type 1} → statement M
 read-behind-spec =
