@@ -6,14 +6,14 @@ use mathlib.Core.List.{List, [], _∷_}
 use mathlib.Core.Bool.{true, false}
 use lib.ListN.{length}
 use Rattle.octets.specs.Basics.{All}
-use Rattle.frames.specs.Frame.{in-range}
+use Rattle.frames.specs.Frame.{in-range, most-frames}
 use Rattle.frames.specs.declared.Settings.{Settings}
 use Rattle.extractor.specs.Extract.{marked, any-torn, events-in}
 use Rattle.extractor.specs.Answers.{EnterNumbers, EnterSaid, enter-answer}
 use Rattle.extractor.specs.Calls.{Finds, steps, SpentLast, listen}
 use Rattle.extractor.specs.declared.Extractor.{Extractor}
 use Rattle.extractor.specs.declared.Extractor.the-variants.{Fresh}
-use Rattle.judge.specs.Calls.{most-frames, judge-calls, judge-run}
+use Rattle.judge.specs.Calls.{judge-calls, judge-run}
 use Rattle.judge.specs.declared.Judge.the-variants.{Open}
 use Rattle.demands.specs.Carries.{Carries}
 

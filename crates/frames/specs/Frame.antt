@@ -18,6 +18,10 @@ idle-zone = 2046
 abbrev pub no-start : ℕ
 no-start = 2047
 
+-- a judged run has so many frames at most
+abbrev pub most-frames : ℕ
+most-frames = 16777216
+
 -- M from the greater of 7 and Z to 65,542; Z 1 to 2,046
 unfoldable pub in-range : Settings → Bool
 in-range s =

@@ -43,6 +43,9 @@ pub const ZONE_AT: usize = 8;
 // So many counts are on the wheel.
 pub const WHEEL: u32 = 16777216;
 
+// A judged run has so many frames at most.
+pub const MOST_FRAMES: u32 = 16777216;
+
 const VERSION: Place = Place {
     below: 46,
     width: 2,

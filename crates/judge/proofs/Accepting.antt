@@ -9,12 +9,12 @@ use borrow.Author.Tests.{ltb-false, leb-false, not-false}
 use Rattle.octets.specs.Basics.{first}
 use Rattle.octets.proofs.Choices.{and-true, none-holds}
 use Rattle.octets.proofs.Tests.{and-both}
-use Rattle.frames.specs.Frame.{in-range}
+use Rattle.frames.specs.Frame.{in-range, most-frames}
 use Rattle.frames.specs.declared.Settings.{Settings}
 use Rattle.extractor.specs.Records.{reachable}
 use Rattle.extractor.specs.declared.Extractor.the-variants.{InStep}
 use Rattle.extractor.proofs.Places.{holds-none}
-use Rattle.judge.specs.Calls.{most-frames, tally-of, judge-reachable, frame-refusals}
+use Rattle.judge.specs.Calls.{tally-of, judge-reachable, frame-refusals}
 use Rattle.judge.specs.Trials.{Tries}
 use Rattle.judge.specs.declared.Judge.{Judge}
 use Rattle.judge.specs.declared.Judge.the-variants.{Open, Sound}

@@ -14,7 +14,7 @@ use borrow.Author.Tests.{leb-true, le-leb, ltb-true, lt-ltb, eqb-true, eqb-false
 use Rattle.octets.proofs.Choices.{and-true}
 use Rattle.octets.proofs.Tests.{test, and-both}
 use Rattle.packets.specs.Packet.{end-to-end}
-use Rattle.frames.specs.Frame.{idle-zone, in-range, zone-of, pointer, count}
+use Rattle.frames.specs.Frame.{idle-zone, in-range, zone-of, pointer, count, most-frames}
 use Rattle.frames.specs.declared.Settings.{Settings}
 use Rattle.frames.proofs.Accepted.{length-zone, accepted}
 use Rattle.frames.proofs.Settled.{settled}
@@ -27,7 +27,7 @@ use Rattle.extractor.proofs.Settles.{Settles, steps-are-events}
 use Rattle.extractor.proofs.Unrefused.{held-fits}
 use Rattle.extractor.proofs.Walked.{Clean, walk-clean}
 use Rattle.judge.specs.Judge.{opened, Verdict, fault, faulty-entry, faulty, judged}
-use Rattle.judge.specs.Calls.{most-frames, tally-of, counts-well, judge-reachable, Judging, judging, faults-at, stepped-through, try-frame, judge-frame}
+use Rattle.judge.specs.Calls.{tally-of, counts-well, judge-reachable, Judging, judging, faults-at, stepped-through, try-frame, judge-frame}
 use Rattle.judge.specs.Trials.{through, Tries}
 use Rattle.judge.specs.declared.Judge.{Judge}
 use Rattle.judge.specs.declared.Judge.the-variants.{Open, Sound, Faulty}

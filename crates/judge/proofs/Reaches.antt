@@ -18,7 +18,7 @@ use Rattle.octets.proofs.Fronts.{all-take, all-drop, all-append}
 use Rattle.octets.proofs.Tests.{test}
 use Rattle.packets.specs.Packet.{whole, look, encapsulation, is-idle}
 use Rattle.frames.specs.Link.{zone-at, count-width}
-use Rattle.frames.specs.Frame.{no-start, in-range, frame-length, frame-rows, zone-of, pointer, count}
+use Rattle.frames.specs.Frame.{no-start, in-range, frame-length, frame-rows, zone-of, pointer, count, most-frames}
 use Rattle.frames.specs.declared.Settings.{Settings}
 use Rattle.frames.proofs.Accepted.{length-zone}
 use Rattle.frames.proofs.Framed.{framed, framed-is, pointer-inside, pointer-beyond}
@@ -34,7 +34,7 @@ use Rattle.extractor.proofs.Reaches.{step-next, all-framed, outlasted-agrees, k
 use Rattle.extractor.proofs.Settles.{step-unrefused}
 use Rattle.extractor.proofs.Walked.{event-whole}
 use Rattle.judge.specs.Judge.{opened, is-fault, faulty-entry}
-use Rattle.judge.specs.Calls.{most-frames, tally-of, counts-well, judge-reachable, frame-refusals, judging, faults-at, stepped-through, try-frame, judge-frame, answers-frame, FrameSaid, frame-call}
+use Rattle.judge.specs.Calls.{tally-of, counts-well, judge-reachable, frame-refusals, judging, faults-at, stepped-through, try-frame, judge-frame, answers-frame, FrameSaid, frame-call}
 use Rattle.judge.specs.Trials.{through}
 use Rattle.judge.specs.Reach.{Reached, begins, judges, ReachesAll}
 use Rattle.judge.specs.declared.Judge.{Judge}

@@ -10,13 +10,13 @@ use lib.ListN.{length, take, drop}
 use lib.Dec.{eqb}
 use borrow.Author.Tests.{le-ltb, lt-leb, ne-eqb}
 use Rattle.octets.specs.Basics.{pick, All, first}
-use Rattle.frames.specs.Frame.{in-range}
+use Rattle.frames.specs.Frame.{in-range, most-frames}
 use Rattle.frames.specs.declared.Settings.{Settings}
 use Rattle.extractor.specs.Records.{reachable, is-entered, stands-for}
 use Rattle.extractor.specs.declared.Extractor.the-variants.{InStep}
 use Rattle.extractor.proofs.Unrefused.{held-fits}
 use Rattle.judge.specs.Judge.{Verdict, pass, fault, close, judged, verdict}
-use Rattle.judge.specs.Calls.{most-frames, tally-of, counts-well, judge-reachable, frame-refusals, close-rows, Judging, judge-frame, answers-frame, frame-call, judge-close, close-says, closes-with, close-call, RunCalls, judge-calls, judge-run}
+use Rattle.judge.specs.Calls.{tally-of, counts-well, judge-reachable, frame-refusals, close-rows, Judging, judge-frame, answers-frame, frame-call, judge-close, close-says, closes-with, close-call, RunCalls, judge-calls, judge-run}
 use Rattle.judge.specs.declared.Judge.{Judge}
 use Rattle.judge.specs.declared.Judge.the-variants.{Open, Sound, Faulty}
 use Rattle.judge.proofs.Accepting.{Accepts}

@@ -5,7 +5,7 @@ use mathlib.Core.Bool.{Bool, true, false, not}
 use lib.ListN.{length}
 use lib.Dec.{leb, ltb, eqb}
 use Rattle.octets.specs.Basics.{pick, and, first, Row, row}
-use Rattle.frames.specs.Frame.{in-range, count}
+use Rattle.frames.specs.Frame.{in-range, count, most-frames}
 use Rattle.frames.specs.declared.Settings.{Settings}
 use Rattle.extractor.specs.Extract.{State, any-torn}
 use Rattle.extractor.specs.Records.{reachable, held-in, stands-for, enter}
@@ -18,10 +18,6 @@ use Rattle.judge.specs.declared.Judge.the-variants.{Open, Sound, Faulty}
 use Rattle.judge.specs.declared.Judged.{Judged}
 use Rattle.judge.specs.declared.Closed.{Closed}
 use Rattle.judge.specs.declared.Closed.the-variants.{Refused, Pass, Fault}
-
--- a judged run has so many frames at most
-abbrev pub most-frames : ℕ
-most-frames = 16777216
 
 -- ---- the records that the rules can reach
 

@@ -8,7 +8,8 @@ use Rattle.octets.specs.Basics.{first}
 use Rattle.frames.specs.declared.Settings.{Settings}
 use Rattle.extractor.specs.Statements.{Fit}
 use Rattle.judge.specs.Judge.{verdict}
-use Rattle.judge.specs.Calls.{most-frames, judge-reachable, frame-refusals, frame-call, close-says, closes-with, judge-run}
+use Rattle.frames.specs.Frame.{most-frames}
+use Rattle.judge.specs.Calls.{judge-reachable, frame-refusals, frame-call, close-says, closes-with, judge-run}
 use Rattle.judge.specs.declared.Judge.{Judge}
 
 -- Every record that a call hands back, but for a refusal, passes the test for refusal 10 over the store that it leaves; and the

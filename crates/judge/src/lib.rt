@@ -1,6 +1,7 @@
 // The judge of a recorded run: one whole frame at a time, and a verdict at the close.
 ghost use mathlib.Core.Path.{_≡_};
 ghost use Rattle.judge.specs.Calls.{frame-says, frame-call, close-says, close-call};
+use frames::MOST_FRAMES;
 use frames::Settings;
 
 mod record;
@@ -30,9 +31,6 @@ pub enum Closed {
     // The index of the first fault; the number of frames where octets are still held.
     Fault { at: u32 },
 }
-
-// A judged run has so many frames at most.
-pub const MOST_FRAMES: u32 = 16777216;
 
 // One whole frame of the run. Up to the first fault the store changes as the extractor's steps change it.
 pub fn frame(s: Settings, j: Judge, store: &mut [u8], frame: &[u8]) -> Judged

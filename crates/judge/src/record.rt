@@ -6,8 +6,8 @@ ghost use Rattle.judge.specs.Calls.{tally-of, counts-well, extractor-of,
 ghost use Rattle.judge.specs.Trials.{refused-above};
 use crate::Closed;
 use crate::Judge;
-use crate::MOST_FRAMES;
 use extractor::Extractor;
+use frames::MOST_FRAMES;
 use frames::Settings;
 
 // The frames that it has seen.

@@ -2,11 +2,11 @@
 ghost use mathlib.Core.Path.{_≡_};
 ghost use Prim.Native.Nat.{_<_};
 ghost use Rattle.octets.specs.Basics.{first};
-ghost use Rattle.frames.specs.Frame.{heading};
+ghost use Rattle.frames.specs.Frame.{heading, most-frames};
 ghost use Rattle.frames.specs.Link.{count-width, missing};
 ghost use Rattle.extractor.specs.Records.{stands-for};
 ghost use Rattle.extractor.specs.Calls.{goes-on};
-ghost use Rattle.judge.specs.Calls.{most-frames, frame-refusals, judging, faults-at, try-frame, judge-frame};
+ghost use Rattle.judge.specs.Calls.{frame-refusals, judging, faults-at, try-frame, judge-frame};
 ghost use Rattle.judge.specs.Trials.{through, Spends, Tries, goes-on-from};
 use crate::Judge;
 use extractor::Entered;

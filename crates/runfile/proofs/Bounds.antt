@@ -8,10 +8,10 @@ use lib.Dec.{eqb}
 use borrow.Author.Tests.{leb-true, ltb-true}
 use Rattle.octets.specs.Basics.{pick, and}
 use Rattle.octets.proofs.Choices.{and-true}
-use Rattle.frames.specs.Frame.{frame-length}
+use Rattle.frames.specs.Frame.{frame-length, most-frames}
 use Rattle.frames.specs.declared.Settings.{Settings}
 use Rattle.frames.proofs.Settled.{Settled, settled}
-use Rattle.runfile.specs.RunFile.{most-frames, fits}
+use Rattle.runfile.specs.RunFile.{fits}
 use Rattle.runfile.specs.Steps.{may-follow, body-length, most-body}
 use Rattle.runfile.specs.declared.Reader.{Reader}
 use Rattle.runfile.specs.declared.Reader.the-variants.{Start, Running, Ended, Bad}

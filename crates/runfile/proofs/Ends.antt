@@ -9,9 +9,9 @@ use lib.ListN.{length}
 use lib.Dec.{eqb}
 use Rattle.octets.specs.Basics.{pick, and}
 use Rattle.octets.proofs.Choices.{and-true}
-use Rattle.frames.specs.Frame.{frame-length}
+use Rattle.frames.specs.Frame.{frame-length, most-frames}
 use Rattle.frames.specs.declared.Settings.{Settings}
-use Rattle.runfile.specs.RunFile.{most-frames, setup-length, setup-of, fits}
+use Rattle.runfile.specs.RunFile.{setup-length, setup-of, fits}
 use Rattle.runfile.specs.Steps.{may-follow, taken}
 use Rattle.runfile.specs.declared.Reader.{Reader}
 use Rattle.runfile.specs.declared.Reader.the-variants.{Start, Running, Ended, Bad}

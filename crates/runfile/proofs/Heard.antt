@@ -11,9 +11,9 @@ use lib.Seq.{length-take-le}
 use lib.Dec.{leb, eqb}
 use borrow.Author.Tests.{lt-ltb, le-ltb, eq-eqb, ne-eqb, le-leb, leb-true, leb-false, eqb-true}
 use Rattle.octets.specs.Basics.{and}
-use Rattle.frames.specs.Frame.{frame-length}
+use Rattle.frames.specs.Frame.{frame-length, most-frames}
 use Rattle.frames.specs.declared.Settings.{Settings}
-use Rattle.runfile.specs.RunFile.{most-frames, setup-length, setup-of, fits, stop, with-setup, with-frame, records, stands, ending, nothing-after, reading}
+use Rattle.runfile.specs.RunFile.{setup-length, setup-of, fits, stop, with-setup, with-frame, records, stands, ending, nothing-after, reading}
 use Rattle.runfile.specs.Steps.{may-follow, body-length, taken, closed, bad-of, told, heard, heard-of}
 use Rattle.runfile.specs.declared.Reader.{Reader}
 use Rattle.runfile.specs.declared.Reader.the-variants.{Start, Running, Ended, Bad}

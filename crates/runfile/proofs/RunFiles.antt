@@ -13,9 +13,9 @@ use borrow.Author.Tests.{le-leb, leb-true, eqb-true}
 use Rattle.octets.specs.Basics.{and, All, octets, number-at}
 use Rattle.octets.proofs.Choices.{and-true}
 use Rattle.octets.proofs.Numbers.{Octets, number-octets, number-within, octets-again}
-use Rattle.frames.specs.Frame.{frame-length}
+use Rattle.frames.specs.Frame.{frame-length, most-frames}
 use Rattle.frames.specs.declared.Settings.{Settings}
-use Rattle.runfile.specs.RunFile.{most-frames, setup-length, setup-of, fits, Reading, stop, with-setup, with-frame, body, beyond, records, stands, ending, nothing-after, reading, Recorded, setup-octets, frame-octets, run-file, Run, whole}
+use Rattle.runfile.specs.RunFile.{setup-length, setup-of, fits, Reading, stop, with-setup, with-frame, body, beyond, records, stands, ending, nothing-after, reading, Recorded, setup-octets, frame-octets, run-file, Run, whole}
 use Rattle.runfile.proofs.Bounds.{fitting}
 
 -- ---- written, then read

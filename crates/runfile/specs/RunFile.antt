@@ -8,12 +8,8 @@ use mathlib.Core.Option.{Option, none, some}
 use lib.ListN.{length, take, drop, getD}
 use lib.Dec.{leb, eqb}
 use Rattle.octets.specs.Basics.{pick, and, All, octets, number-at}
-use Rattle.frames.specs.Frame.{in-range, frame-length}
+use Rattle.frames.specs.Frame.{in-range, frame-length, most-frames}
 use Rattle.frames.specs.declared.Settings.{Settings}
-
--- a judged run has at most so many frames
-abbrev pub most-frames : ℕ
-most-frames = 16777216
 
 -- a setup has so many octets of body
 abbrev pub setup-length : ℕ

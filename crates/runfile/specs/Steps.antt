@@ -6,9 +6,9 @@ use mathlib.Core.Option.{Option, none, some}
 use lib.ListN.{length, take, drop}
 use lib.Dec.{ltb, eqb}
 use Rattle.octets.specs.Basics.{pick, and}
-use Rattle.frames.specs.Frame.{frame-length}
+use Rattle.frames.specs.Frame.{frame-length, most-frames}
 use Rattle.frames.specs.declared.Settings.{Settings}
-use Rattle.runfile.specs.RunFile.{most-frames, setup-length, setup-of, fits, Reading, stop, with-setup, with-frame}
+use Rattle.runfile.specs.RunFile.{setup-length, setup-of, fits, Reading, stop, with-setup, with-frame}
 use Rattle.runfile.specs.declared.Reader.{Reader}
 use Rattle.runfile.specs.declared.Reader.the-variants.{Start, Running, Ended, Bad}
 

@@ -5,6 +5,7 @@ ghost use Rattle.frames.specs.Frame.{frame-length};
 ghost use Rattle.runfile.specs.RunFile.{setup-of, fits};
 ghost use Rattle.runfile.specs.Steps.{may-follow, body-length, taken, closed};
 use frames::Link;
+use frames::MOST_FRAMES;
 use frames::Settings;
 
 // Where the reading of a run file stands, between two records.
@@ -34,9 +35,6 @@ const SETUP_LENGTH: usize = 7;
 
 // The greatest limit that a setup may give.
 const MOST_LIMIT: usize = 4096;
-
-// A judged run has at most so many frames.
-const MOST_FRAMES: u32 = 16777216;
 
 // The settings that the body of a setup gives.
 fn setup_of(body: &[u8]) -> Settings
