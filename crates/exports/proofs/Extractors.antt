@@ -1,11 +1,13 @@
 -- What the extractor's calls leave, from what the library answers.
 -- Assumes nothing.
-use mathlib.Core.Path.{_≡_, refl}
+use mathlib.Core.Path.{_≡_}
 use mathlib.Core.List.{List, []}
 use mathlib.Core.Bool.{true, false}
 use Prim.Native.Nat.{ℕ}
 use lib.ListN.{length}
-use Rattle.extractor.specs.Answers.{EnterNumbers, entered-numbers, enter-says, enter-answer, StepNumbers, found-numbers, step-says, step-answer}
+use Rattle.frames.specs.declared.Settings.{Settings}
+use Rattle.extractor.specs.Answers.{entered-numbers, enter-says, enter-answer, found-numbers, step-says, step-answer}
+use Rattle.extractor.specs.declared.Extractor.{Extractor}
 use Rattle.extractor.specs.declared.Entering.{Entering}
 use Rattle.extractor.specs.declared.Move.{Move}
 use Rattle.exports.specs.Left.{left, told, kept}
@@ -16,25 +18,29 @@ module _ (settings numbers store frame answer : List ℕ) where
   pub enter-short : short (length settings) (length numbers) (length answer) 5 ≡ true
       → left 2 numbers [] answer ≡ enter-leaves settings numbers store frame answer
   unfolding enter-leaves
-  enter-short t = rw t refl
+  enter-short t = rw t
 
-  pub enter-done : (e : Entering) → short (length settings) (length numbers) (length answer) 5 ≡ false
-      → enter-says e ≡ enter-answer (settings-of settings) (extractor-of numbers) store frame
-      → (let a : EnterNumbers = entered-numbers (e .entered) in
-      left (a .refusal) (kept (a .refusal) numbers (extractor-numbers (e .next))) [] (told answer (enter-numbers a))
-      ≡ enter-leaves settings numbers store frame answer)
+  pub enter-done : (s : Settings) (x : Extractor) (e : Entering) {refusal : ℕ} {state said numbers′ answer′ : List ℕ}
+      → short (length settings) (length numbers) (length answer) 5 ≡ false → s ≡ settings-of settings → x ≡ extractor-of numbers
+      → enter-says e ≡ enter-answer s x store frame → refusal ≡ entered-numbers (e .entered) .refusal
+      → state ≡ extractor-numbers (e .next) → said ≡ enter-numbers (entered-numbers (e .entered))
+      → numbers′ ≡ kept refusal numbers state → answer′ ≡ told answer said
+      → left refusal numbers′ [] answer′ ≡ enter-leaves settings numbers store frame answer
   unfolding enter-leaves
-  enter-done e t r = rw (t, ← r) refl
+  enter-done s x e t s-is x-is r refusal state said k p = rw (t, ← s-is, ← x-is, ← r, k, p, said, state, refusal)
 
   pub step-short : short (length settings) (length numbers) (length answer) 4 ≡ true
       → left 2 numbers store answer ≡ step-leaves settings numbers store frame answer
   unfolding step-leaves
-  step-short t = rw t refl
+  step-short t = rw t
 
-  pub step-done : (m : Move) (store′ : List ℕ) → short (length settings) (length numbers) (length answer) 4 ≡ false
-      → step-says m frame store′ ≡ step-answer (settings-of settings) (extractor-of numbers) store frame
-      → (let a : StepNumbers = found-numbers frame store′ (m .found) in
-      left (a .refusal) (kept (a .refusal) numbers (extractor-numbers (m .next))) store′ (told answer (step-numbers a))
-      ≡ step-leaves settings numbers store frame answer)
+  pub step-done : (s : Settings) (x : Extractor) (m : Move) {refusal : ℕ} {state said numbers′ store′ answer′ : List ℕ}
+      → short (length settings) (length numbers) (length answer) 4 ≡ false → s ≡ settings-of settings → x ≡ extractor-of numbers
+      → step-says m frame store′ ≡ step-answer s x store frame
+      → ((f os : List ℕ) → refusal ≡ found-numbers f os (m .found) .refusal) → state ≡ extractor-numbers (m .next)
+      → ((f os : List ℕ) → said ≡ step-numbers (found-numbers f os (m .found)))
+      → numbers′ ≡ kept refusal numbers state → answer′ ≡ told answer said
+      → left refusal numbers′ store′ answer′ ≡ step-leaves settings numbers store frame answer
   unfolding step-leaves
-  step-done m store′ t r = rw (t, ← r) refl
+  step-done s x m {store′ = store′} t s-is x-is r refusal state said k p =
+      rw (t, ← s-is, ← x-is, ← r, k, p, said frame store′, state, refusal frame store′)

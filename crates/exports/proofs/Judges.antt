@@ -1,11 +1,13 @@
 -- What the judge's calls leave, from what the library answers.
 -- Assumes nothing.
-use mathlib.Core.Path.{_≡_, refl}
+use mathlib.Core.Path.{_≡_}
 use mathlib.Core.List.{List, []}
 use mathlib.Core.Bool.{true, false}
 use Prim.Native.Nat.{ℕ}
 use lib.ListN.{length}
+use Rattle.frames.specs.declared.Settings.{Settings}
 use Rattle.judge.specs.Calls.{frame-says, frame-call, close-says, close-call}
+use Rattle.judge.specs.declared.Judge.{Judge}
 use Rattle.judge.specs.declared.Judged.{Judged}
 use Rattle.judge.specs.declared.Closed.{Closed}
 use Rattle.exports.specs.Left.{left, told, kept}
@@ -15,22 +17,24 @@ use Rattle.exports.specs.Judging.{judge-of, judge-numbers, judge-leaves,
 module _ (settings numbers store frame : List ℕ) where
   pub judge-short : short (length settings) (length numbers) 0 0 ≡ true → left 2 numbers store [] ≡ judge-leaves settings numbers store frame
   unfolding judge-leaves
-  judge-short t = rw t refl
+  judge-short t = rw t
 
-  pub judge-done : (r : Judged) (store′ : List ℕ) → short (length settings) (length numbers) 0 0 ≡ false
-      → frame-says r store′ ≡ frame-call (settings-of settings) store (judge-of numbers) frame
-      → left (r .refusal) (kept (r .refusal) numbers (judge-numbers (r .next))) store′ [] ≡ judge-leaves settings numbers store frame
+  pub judge-done : (s : Settings) (j : Judge) (r : Judged) {state numbers′ store′ : List ℕ}
+      → short (length settings) (length numbers) 0 0 ≡ false → s ≡ settings-of settings → j ≡ judge-of numbers
+      → frame-says r store′ ≡ frame-call s store j frame → state ≡ judge-numbers (r .next) → numbers′ ≡ kept (r .refusal) numbers state
+      → left (r .refusal) numbers′ store′ [] ≡ judge-leaves settings numbers store frame
   unfolding judge-leaves
-  judge-done r store′ t e = rw (t, ← e) refl
+  judge-done s j r t s-is j-is e state k = rw (t, ← s-is, ← j-is, ← e, k, state)
 
 module _ (settings numbers store answer : List ℕ) where
   pub close-short : short (length settings) (length numbers) (length answer) 2 ≡ true
       → left 2 [] [] answer ≡ close-leaves settings numbers store answer
   unfolding close-leaves
-  close-short t = rw t refl
+  close-short t = rw t
 
-  pub close-done : (r : Closed) → short (length settings) (length numbers) (length answer) 2 ≡ false
-      → close-says r ≡ close-call (settings-of settings) store (judge-of numbers)
-      → left (close-says r .refusal) [] [] (told answer (close-numbers (close-says r))) ≡ close-leaves settings numbers store answer
+  pub close-done : (s : Settings) (j : Judge) (r : Closed) {refusal : ℕ} {said answer′ : List ℕ}
+      → short (length settings) (length numbers) (length answer) 2 ≡ false → s ≡ settings-of settings → j ≡ judge-of numbers
+      → close-says r ≡ close-call s store j → refusal ≡ close-says r .refusal → said ≡ close-numbers (close-says r)
+      → answer′ ≡ told answer said → left refusal [] [] answer′ ≡ close-leaves settings numbers store answer
   unfolding close-leaves
-  close-done r t e = rw (t, ← e) refl
+  close-done s j r t s-is j-is e refusal said p = rw (t, ← s-is, ← j-is, ← e, p, said, refusal)

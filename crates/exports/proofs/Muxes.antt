@@ -1,11 +1,13 @@
 -- What the multiplexer's calls leave, from what the library answers.
 -- Assumes nothing.
-use mathlib.Core.Path.{_≡_, refl, sym, ap, _∙_}
+use mathlib.Core.Path.{_≡_, refl, sym, ap}
 use mathlib.Core.List.{List}
 use mathlib.Core.Bool.{true, false}
 use Prim.Native.Nat.{ℕ}
 use lib.ListN.{length}
+use Rattle.frames.specs.declared.Settings.{Settings}
 use Rattle.multiplexer.specs.Calls.{Call, Answer, answers, answer}
+use Rattle.multiplexer.specs.declared.Mux.{Mux}
 use Rattle.multiplexer.specs.declared.Reply.{Reply}
 use Rattle.exports.specs.Left.{left, told, kept}
 use Rattle.exports.specs.Channel.{short, settings-of}
@@ -21,16 +23,17 @@ module _ (call : Call) (room : ℕ) (said : Answer → List ℕ) (settings numbe
   pub mux-short : short (length settings) (length numbers) (length array) room ≡ true
       → left 2 numbers frame array ≡ mux-leaves call room said settings numbers frame array
   unfolding mux-leaves
-  mux-short t = rw t refl
+  mux-short t = rw t
 
-  pub mux-done : (r : Reply) (frame′ : List ℕ) → short (length settings) (length numbers) (length array) room ≡ false
-      → answers r frame′ ≡ answer (settings-of settings) (mux-of numbers) call frame
-      → (let a : Answer = answers r frame′ in
-      left (a .refusal) (kept (a .refusal) numbers (mux-numbers (a .mux))) frame′ (told array (said a))
-      ≡ mux-leaves call room said settings numbers frame array)
+  pub mux-done : (s : Settings) (m : Mux) (r : Reply) {refusal : ℕ} {state told-numbers numbers′ frame′ array′ : List ℕ}
+      → short (length settings) (length numbers) (length array) room ≡ false → s ≡ settings-of settings → m ≡ mux-of numbers
+      → answers r frame′ ≡ answer s m call frame → ((os : List ℕ) → refusal ≡ answers r os .refusal)
+      → ((os : List ℕ) → state ≡ mux-numbers (answers r os .mux)) → ((os : List ℕ) → told-numbers ≡ said (answers r os))
+      → numbers′ ≡ kept refusal numbers state → array′ ≡ told array told-numbers
+      → left refusal numbers′ frame′ array′ ≡ mux-leaves call room said settings numbers frame array
   unfolding mux-leaves
-  mux-done r frame′ t e =
-      rw (t, ← e)
+  mux-done s m r {frame′ = frame′} t s-is m-is e refusal state ns k p =
+      rw (t, ← s-is, ← m-is, ← e, k, p, ns frame′, state frame′, refusal frame′)
       (let a : Answer = answers r frame′ in
       ap (λ (os : List ℕ). left (a .refusal) (kept (a .refusal) numbers (mux-numbers (a .mux))) os (told array (said a)))
       (sym (frame-same r frame′)))

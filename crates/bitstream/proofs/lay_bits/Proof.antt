@@ -38,13 +38,13 @@ module _ (c : tie.After-slice-known3) where
 
 shared-slice-read-mixed : tie.Need-shared-slice-read-mixed
 unfolding octets-for
-shared-slice-read-mixed c = omega (arith, start (c .before .before) .pre .lent)
+shared-slice-read-mixed c = omega (arith, start (c .before .before) .pre .lent, c .before .if1 .taken)
 
 slice-write-frame : tie.Need-slice-write-frame
 unfolding octets-for bit-frame-length
 slice-write-frame c =
     let at = c .before .before .before in
-    omega (arith, as-long at, start at .pre .inside, start at .pre .room)
+    omega (arith, as-long at, start at .pre .inside, start at .pre .room, c .before .before .if1 .taken)
 
 same-length : tie.Need-same-length
 same-length c = simp length-set (as-long (c .before .before .before))
@@ -53,7 +53,7 @@ returns : tie.Need-returns
 returns c =
     let at = c .before .before .before in
     let a = start at .args in
-    laid-mixed (a .s) (a .n) (a .bits .now) (a .frame .now) (start at .pre) _ _ (omega arith) (so-far at) (c .mixed .ensures)
+    laid-mixed (a .s) (a .n) (a .bits .now) (a .frame .now) (start at .pre) _ _ (omega (arith, c .before .before .if1 .taken)) (so-far at) (c .mixed .ensures)
 
 returns-2 : tie.Need-returns-2
 returns-2 c =
@@ -75,5 +75,5 @@ lay-bits-spec =
     slice-write-frame
     same-length
     returns
-    (λ c. search needs)
+    (λ c. as-long (c .before))
     returns-2)

@@ -1,19 +1,36 @@
 -- `bitstream::leading_octets` meets its contract: the octets lie within the zone, and the zone within the frame.
 -- Assumes nothing.
 use mathlib.Core.Path.{_≡_, sym, ap, _∙_}
+use mathlib.Core.List.{List}
+use mathlib.Core.Bool.{Bool, true}
 use Prim.Native.Nat.{ℕ, _+_, _-_, _≤_}
+use native.Mathlib.Nat.{le-add-right}
 use native.Mathlib.Omega.{arith}
 use lib.ListN.{length, take, drop}
-use lib.Dec.{leb}
+use lib.Dec.{leb, eqb}
 use borrow.Author.Needs.{needs}
 use borrow.Author.Tests.{leb-true, eqb-true}
 use Rattle.octets.specs.Basics.{and}
 use Rattle.octets.proofs.Choices.{and-true}
 use Rattle.frames.specs.BitFrame.{bit-frame-length}
+use Rattle.frames.specs.declared.bits.BitSettings.{BitSettings}
 use Rattle.bitstream.specs.Bitstream.{octets-for}
 use Rattle.bitstream.proofs.Sizes.{octets-within, held-in, leading-some, leading-none}
 use Rattle.bitstream.proofs.leading_octets.Statement.{statement}
 use Rattle.bitstream.proofs.leading_octets.Tie as tie
+
+-- the tests, by what the calls give
+module _ (s : BitSettings) (n : ℕ) (f : List ℕ) {long : Bool} (l : long ≡ eqb (length f) (bit-frame-length s)) where
+  held-by : {octets : ℕ} → octets ≡ octets-for n → and long (leb octets (s .width)) ≡ held-in s n f
+  held-by o = rw (l, o, octets-within n (s .width))
+
+  held-within : (octets : ℕ) → and long (leb octets (s .width)) ≡ true → 8 + octets ≤ length f
+  unfolding bit-frame-length
+  held-within octets e =
+      let both = and-true long _ e in
+      let inside : octets ≤ s .width = leb-true _ _ (both .1) in
+      let as-long : length f ≡ bit-frame-length s = eqb-true _ _ (sym l ∙ both .0) in
+      omega arith
 
 -- both tests are the definition's
 module _ (c : tie.After-struct-known) where
@@ -22,20 +39,16 @@ module _ (c : tie.After-struct-known) where
 
   tests : and (c .before .has-length .result) (leb (c .before .before .octets-for .result) (start .args .s .width))
       ≡ held-in (start .args .s) (start .args .n) (start .args .frame .now)
-  tests = cc (octets-within (start .args .n) (start .args .s .width))
+  tests = held-by (start .args .s) (start .args .n) (start .args .frame .now) (c .before .has-length .ensures) (c .before .before .octets-for .ensures)
 
 -- the octets end within the frame
 within : (c : tie.Then1) → 8 + c .before .before .before .octets-for .result ≤ length (start (c .before) .args .frame .now)
-unfolding bit-frame-length
 within c =
     let a = start (c .before) .args in
-    let both = and-true _ _ (c .if1 .taken) in
-    let inside : c .before .before .before .octets-for .result ≤ a .s .width = leb-true _ _ (both .1) in
-    let long : length (a .frame .now) ≡ bit-frame-length (a .s) = eqb-true _ _ (sym (c .before .before .has-length .ensures) ∙ both .0) in
-    omega arith
+    held-within (a .s) (a .n) (a .frame .now) (c .before .before .has-length .ensures) _ (c .if1 .taken)
 
 add-end : tie.Need-add-end
-add-end c = record { fits = omega (arith, within c) }
+add-end c = record { fits = omega (arith, within c, start (c .before) .good .1 .1 .0) }
 
 part-result-end : tie.Need-part-result-end
 part-result-end c = within c
@@ -63,8 +76,8 @@ leading-octets-spec =
     (λ c κs. search needs)
     (λ c κs. search needs)
     add-end
-    (λ c. search needs)
-    (λ c. search needs)
+    (λ c. le-add-right 8 _)
+    (λ c. le-add-right 8 _)
     part-result-end
     returns
     (λ c. search needs)

@@ -8,11 +8,11 @@ use Rattle.bitstream.proofs.loss_flag.Tie as tie
 
 returns : tie.Need-returns
 unfolding loss-flag
-returns c = cc
+returns c = rw (c .enum-told .given .1)
 
 returns-2 : tie.Need-returns-2
 unfolding loss-flag count-width
-returns-2 c = cc
+returns-2 c = rw (c .next-count .ensures, c .before .before .x .given .1)
 
 pub loss-flag-spec : {M : Type 1} → statement M
 loss-flag-spec = tie.close (tie.spec (λ c. search needs) (λ c. search needs) (λ c κs. search needs) returns returns-2)

@@ -1,14 +1,27 @@
 -- `bitstream::read` meets its contract: the rows before the header's are tests of the code.
 -- Assumes nothing.
 use mathlib.Core.Path.{_≡_, sym, _∙_}
+use mathlib.Core.List.{List}
+use mathlib.Core.Bool.{Bool, not}
+use Prim.Native.Nat.{ℕ}
 use borrow.Author.Needs.{needs}
-use Rattle.octets.specs.Basics.{first}
+use Rattle.octets.specs.Basics.{pick, first}
+use Rattle.frames.specs.BitFrame.{bits-in-range, bit-heading}
+use Rattle.frames.specs.declared.bits.BitSettings.{BitSettings}
+use Rattle.frames.specs.declared.Heading.{Heading}
 use Rattle.frames.proofs.bits.Settled.{bits-settled}
-use Rattle.bitstream.specs.Bitstream.{read-rows}
+use Rattle.bitstream.specs.Bitstream.{reader-reachable, read-rows}
+use Rattle.bitstream.specs.declared.Reader.{Reader}
 use Rattle.bitstream.proofs.Answers.{read-refused}
 use Rattle.bitstream.proofs.Readings.{readable, refusal-by, read-done}
 use Rattle.bitstream.proofs.read.Statement.{statement}
 use Rattle.bitstream.proofs.read.Tie as tie
+
+-- the refusal, by what the calls give
+refused-by : (s : BitSettings) (x : Reader) (f : List ℕ) (h : Heading) {reached in-range : Bool} {below refusal : ℕ}
+    → h ≡ bit-heading s f → reached ≡ reader-reachable s x → below ≡ pick (not reached) 10 (h .refusal)
+    → in-range ≡ bits-in-range s → refusal ≡ pick (not in-range) 1 below → refusal ≡ first (read-rows s x f)
+refused-by s x f h e a b i r = rw (r, i, b, a) (refusal-by s x f h e)
 
 module _ (c : tie.After-refused2) where
   abbrev at-head : tie.After-read-head
@@ -18,7 +31,10 @@ module _ (c : tie.After-refused2) where
   start = at-head .before .before
 
   refusal : c .refused2 .result ≡ first (read-rows (start .args .s) (start .args .x) (start .args .frame .now))
-  refusal = cc (refusal-by (start .args .s) (start .args .x) (start .args .frame .now) (at-head .read-head .result) (at-head .read-head .ensures))
+  refusal =
+      let at-refused = c .before .before in
+      refused-by (start .args .s) (start .args .x) (start .args .frame .now) (at-head .read-head .result) (at-head .read-head .ensures)
+      (at-refused .before .reader-reachable .ensures) (at-refused .refused .ensures) (c .before .in-range .ensures) (c .refused2 .ensures)
 
 returns : tie.Need-returns
 returns c =
@@ -35,7 +51,8 @@ returns-2 c =
     let at-if1 = c .before .before in
     let at = at-if1 .before in
     let a = start at .args in
-    cc (read-done (a .s) (a .x) (a .frame .now) (at-head at .read-head .result) (at-head at .read-head .ensures) (sym (refusal at) ∙ at-if1 .if1 .left))
+    rw (c .loss-flag .ensures, c .before .valid-bits .ensures)
+    (read-done (a .s) (a .x) (a .frame .now) (at-head at .read-head .result) (at-head at .read-head .ensures) (sym (refusal at) ∙ at-if1 .if1 .left))
 
 pub read-spec : {M : Type 1} → statement M
 read-spec =

@@ -8,11 +8,11 @@ use Rattle.bitstream.proofs.reader_reachable.Tie as tie
 
 returns : tie.Need-returns
 unfolding reader-reachable
-returns c = cc
+returns c = rw (c .enum-told .given .1)
 
 returns-2 : tie.Need-returns-2
 unfolding reader-reachable count-width
-returns-2 c = cc
+returns-2 c = rw (c .before .x .given .1)
 
 pub reader-reachable-spec : {M : Type 1} → statement M
 reader-reachable-spec = tie.close (tie.spec (λ c. search needs) (λ c. search needs) returns returns-2)

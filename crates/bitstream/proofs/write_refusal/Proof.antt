@@ -10,8 +10,20 @@ use Rattle.bitstream.proofs.write_refusal.Tie as tie
 returns : tie.Need-returns
 unfolding first write-rows
 returns c =
-    let a = c .before .before .before .before .before .before .before .before .args in
-    cc (octets-within (a .n) (a .s .width))
+    let at-range = c .before .before .before in
+    let at-reached = at-range .before .before in
+    let at-octets = at-reached .before .before in
+    let a = at-octets .before .args in
+    rw (
+      c .refused3 .ensures,
+      c .before .refused2 .ensures,
+      at-range .in-range .ensures,
+      at-range .before .refused .ensures,
+      at-reached .writer-reachable .ensures,
+      at-reached .before .is-short .ensures,
+      at-octets .octets-for .ensures,
+      octets-within (a .n) (a .s .width),
+    )
 
 pub write-refusal-spec : {M : Type 1} → statement M
 write-refusal-spec =

@@ -7,7 +7,7 @@ use Rattle.runfile.proofs.may_follow.Tie as tie
 
 returns : tie.Need-returns
 unfolding may-follow
-returns c = cc
+returns c = rw (c .fits2 .ensures)
 
 pub may-follow-spec : {M : Type 1} → statement M
 may-follow-spec = tie.close (tie.spec (λ c κs. search needs) returns)

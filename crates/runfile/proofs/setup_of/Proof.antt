@@ -7,7 +7,10 @@ use Rattle.runfile.proofs.setup_of.Tie as tie
 
 returns : tie.Need-returns
 unfolding setup-of
-returns c = cc
+returns c =
+    let at-channel = c .before .before in
+    rw
+    (c .number3 .ensures, c .before .number2 .ensures, at-channel .octet2 .ensures, at-channel .before .octet .ensures)
 
 pub setup-of-spec : {M : Type 1} → statement M
 setup-of-spec =

@@ -7,7 +7,11 @@ use Rattle.exports.proofs.bits.bit_settings_of.Tie as tie
 
 returns : tie.Need-returns
 unfolding bit-settings-of
-returns c = cc
+returns c =
+    let at-width = c .before in
+    let at-link = at-width .before .before in
+    rw
+    (c .octet-of .ensures, at-width .zone-for .ensures, at-width .before .entry2 .ensures, at-link .link-of .ensures, at-link .before .entry .ensures)
 
 pub bit-settings-of-spec : {M : Type 1} → statement M
 bit-settings-of-spec =

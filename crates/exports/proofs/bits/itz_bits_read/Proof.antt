@@ -1,7 +1,6 @@
 -- `exports::bits::itz_bits_read` meets its contract: the arrays' lengths are tested first; then the numbers are those of the library's answer.
 -- Assumes nothing.
-use mathlib.Core.Path.{sym, ap, _∙_}
-use lib.ListN.{length}
+use mathlib.Core.Path.{sym, _∙_}
 use Rattle.exports.proofs.Bitstreams.{read-short, read-done}
 use borrow.Author.Needs.{needs}
 use Rattle.exports.proofs.bits.itz_bits_read.Statement.{statement}
@@ -26,16 +25,11 @@ returns-2 c =
     let at-if1 = at-settings .before in
     let at-short = at-if1 .before in
     let a = at-short .before .before .before .before .before .args in
-    rw (
-      at-put .put .ensures,
-      at-keep .keep .ensures,
-      at-state .reader-numbers .ensures,
-      at-numbers .read-numbers .ensures _ (a .frame .now) (ap length (at-octets .leading-octets .ensures)),
-      at-settings .bit-settings-of .ensures,
-    )
-    (read-done (a .settings .now) (a .«record» .now) (a .frame .now) (a .answer .now) (at-read .read .result)
-    (sym (at-short .bits-short .ensures) ∙ at-if1 .if1 .left)
-    (rw (at-settings .bit-settings-of .ensures, at-record .reader-of .ensures) at (at-read .read .ensures)))
+    read-done (a .settings .now) (a .«record» .now) (a .frame .now) (a .answer .now)
+    (at-settings .bit-settings-of .result) (at-record .reader-of .result) (at-read .read .result)
+    (sym (at-short .bits-short .ensures) ∙ at-if1 .if1 .left) (at-settings .bit-settings-of .ensures) (at-record .reader-of .ensures)
+    (at-read .read .ensures) (at-octets .leading-octets .ensures) (at-state .reader-numbers .ensures) (at-numbers .read-numbers .ensures)
+    (at-keep .keep .ensures) (at-put .put .ensures)
 
 pub itz-bits-read-spec : {M : Type 1} → statement M
 itz-bits-read-spec =
@@ -54,6 +48,6 @@ itz-bits-read-spec =
     (λ c κs. search needs)
     (λ c. search needs)
     (λ c κs. search needs)
-    (λ c. search needs)
-    (λ c. search needs)
+    (λ c. c .before .before .before .before .before .before .«record» .given)
+    (λ c. c .before .answer .given)
     returns-2)

@@ -21,11 +21,10 @@ returns-2 c =
     let at-if1 = at-settings .before in
     let at-short = at-if1 .before in
     let a = at-short .before .before .before .before .before .args in
-    let frame = at-write .write .last .1 .1 .1 .1 .0 in
-    rw (at-keep .keep .ensures)
-    (write-done (a .settings .now) (a .«record» .now) (a .bits .now) (a .n) (a .frame .now) (at-write .write .result) frame
-    (sym (at-short .bits-short .ensures) ∙ at-if1 .if1 .left)
-    (rw (at-settings .bit-settings-of .ensures, at-record .writer-of .ensures) at (at-write .write .ensures)))
+    write-done (a .settings .now) (a .«record» .now) (a .bits .now) (a .n) (a .frame .now)
+    (at-settings .bit-settings-of .result) (at-record .writer-of .result) (at-write .write .result)
+    (sym (at-short .bits-short .ensures) ∙ at-if1 .if1 .left) (at-settings .bit-settings-of .ensures) (at-record .writer-of .ensures)
+    (at-write .write .ensures) (at-keep .keep .ensures)
 
 pub itz-bits-write-spec : {M : Type 1} → statement M
 itz-bits-write-spec =
@@ -40,6 +39,6 @@ itz-bits-write-spec =
     (λ c. search needs)
     (λ c. search needs)
     (λ c κs. search needs)
-    (λ c. search needs)
-    (λ c. search needs)
+    (λ c. c .before .«record» .given)
+    (λ c. c .before .before .before .before .before .before .before .before .frame .given)
     returns-2)

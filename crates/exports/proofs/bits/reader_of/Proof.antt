@@ -5,7 +5,10 @@ use Rattle.exports.proofs.bits.reader_of.Statement.{statement}
 use Rattle.exports.proofs.bits.reader_of.Tie as tie
 
 returns : tie.Need-returns
-returns c = cc
+returns c =
+    let at-last = c .before .before in
+    rw
+    (c .reader-with .ensures, c .before .entry2 .ensures, at-last .count-of .ensures, at-last .before .entry .ensures)
 
 pub reader-of-spec : {M : Type 1} → statement M
 reader-of-spec =

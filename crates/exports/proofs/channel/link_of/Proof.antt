@@ -7,7 +7,10 @@ use Rattle.exports.proofs.channel.link_of.Tie as tie
 
 returns : tie.Need-returns
 unfolding link-of
-returns c = cc
+returns c =
+    let at-spacecraft = c .before .before in
+    rw
+    (c .count-of2 .ensures, c .before .entry2 .ensures, at-spacecraft .count-of .ensures, at-spacecraft .before .entry .ensures)
 
 pub link-of-spec : {M : Type 1} → statement M
 link-of-spec =

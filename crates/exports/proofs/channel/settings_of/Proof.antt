@@ -7,7 +7,11 @@ use Rattle.exports.proofs.channel.settings_of.Tie as tie
 
 returns : tie.Need-returns
 unfolding settings-of
-returns c = cc
+returns c =
+    let at-zone = c .before .before in
+    let at-link = at-zone .before .before in
+    rw
+    (c .octet-of .ensures, c .before .entry3 .ensures, at-zone .zone-for .ensures, at-zone .before .entry2 .ensures, at-link .link-of .ensures, at-link .before .entry .ensures)
 
 pub settings-of-spec : {M : Type 1} → statement M
 settings-of-spec =

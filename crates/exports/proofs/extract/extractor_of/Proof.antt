@@ -5,7 +5,12 @@ use Rattle.exports.proofs.extract.extractor_of.Statement.{statement}
 use Rattle.exports.proofs.extract.extractor_of.Tie as tie
 
 returns : tie.Need-returns
-returns c = cc
+returns c =
+    let at-at = c .before .before in
+    let at-held = at-at .before in
+    let at-last = at-held .before in
+    rw
+    (c .extractor-with .ensures, c .before .entry4 .ensures, at-at .entry3 .ensures, at-held .entry2 .ensures, at-last .count-of .ensures, at-last .before .entry .ensures)
 
 pub extractor-of-spec : {M : Type 1} → statement M
 extractor-of-spec =

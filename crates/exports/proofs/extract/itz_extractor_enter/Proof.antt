@@ -24,16 +24,11 @@ returns-2 c =
     let at-if1 = at-settings .before in
     let at-short = at-if1 .before in
     let a = at-short .before .before .before .before .before .before .args in
-    rw (
-      at-put .put .ensures,
-      at-keep .keep .ensures,
-      at-numbers .enter-numbers .ensures,
-      at-numbers .before .extractor-numbers .ensures,
-      at-refusal .entered-refusal .ensures,
-    )
-    (enter-done (a .settings .now) (a .«record» .now) (a .store .now) (a .frame .now) (a .answer .now) (at-enter .enter .result)
-    (sym (at-short .is-short .ensures) ∙ at-if1 .if1 .left)
-    (rw (at-settings .settings-of .ensures, at-record .extractor-of .ensures) at (at-enter .enter .ensures)))
+    enter-done (a .settings .now) (a .«record» .now) (a .store .now) (a .frame .now) (a .answer .now)
+    (at-settings .settings-of .result) (at-record .extractor-of .result) (at-enter .enter .result)
+    (sym (at-short .is-short .ensures) ∙ at-if1 .if1 .left) (at-settings .settings-of .ensures) (at-record .extractor-of .ensures) (at-enter .enter .ensures)
+    (at-refusal .entered-refusal .ensures) (at-numbers .before .extractor-numbers .ensures) (at-numbers .enter-numbers .ensures)
+    (at-keep .keep .ensures) (at-put .put .ensures)
 
 pub itz-extractor-enter-spec : {M : Type 1} → statement M
 itz-extractor-enter-spec =
@@ -51,6 +46,6 @@ itz-extractor-enter-spec =
     (λ c κs. search needs)
     (λ c. search needs)
     (λ c κs. search needs)
-    (λ c. search needs)
-    (λ c. search needs)
+    (λ c. c .before .before .before .before .before .before .«record» .given)
+    (λ c. c .before .answer .given)
     returns-2)

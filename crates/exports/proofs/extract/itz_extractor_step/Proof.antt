@@ -24,17 +24,11 @@ returns-2 c =
     let at-if1 = at-settings .before in
     let at-short = at-if1 .before in
     let a = at-short .before .before .before .before .before .before .args in
-    let store = at-step .step .last .1 .1 .0 in
-    rw (
-      at-put .put .ensures,
-      at-keep .keep .ensures,
-      at-numbers .step-numbers .ensures (a .frame .now) store,
-      at-numbers .before .extractor-numbers .ensures,
-      at-refusal .found-refusal .ensures (a .frame .now) store,
-    )
-    (step-done (a .settings .now) (a .«record» .now) (a .store .now) (a .frame .now) (a .answer .now) (at-step .step .result) store
-    (sym (at-short .is-short .ensures) ∙ at-if1 .if1 .left)
-    (rw (at-settings .settings-of .ensures, at-record .extractor-of .ensures) at (at-step .step .ensures)))
+    step-done (a .settings .now) (a .«record» .now) (a .store .now) (a .frame .now) (a .answer .now)
+    (at-settings .settings-of .result) (at-record .extractor-of .result) (at-step .step .result)
+    (sym (at-short .is-short .ensures) ∙ at-if1 .if1 .left) (at-settings .settings-of .ensures) (at-record .extractor-of .ensures) (at-step .step .ensures)
+    (at-refusal .found-refusal .ensures) (at-numbers .before .extractor-numbers .ensures) (at-numbers .step-numbers .ensures)
+    (at-keep .keep .ensures) (at-put .put .ensures)
 
 pub itz-extractor-step-spec : {M : Type 1} → statement M
 itz-extractor-step-spec =
@@ -52,7 +46,7 @@ itz-extractor-step-spec =
     (λ c κs. search needs)
     (λ c. search needs)
     (λ c κs. search needs)
-    (λ c. search needs)
-    (λ c. search needs)
-    (λ c. search needs)
+    (λ c. c .before .before .before .before .before .before .«record» .given)
+    (λ c. c .before .before .before .before .before .before .before .before .before .before .before .before .before .before .store .given)
+    (λ c. c .before .answer .given)
     returns-2)

@@ -22,10 +22,10 @@ returns-2 c =
     let at-if1 = at-settings .before in
     let at-short = at-if1 .before in
     let a = at-short .before .before .before .before .before .args in
-    rw (c .closed-refusal .ensures, at-put .put .ensures, at-numbers .close-numbers .ensures)
-    (close-done (a .settings .now) (a .«record» .now) (a .store .now) (a .answer .now) (at-close .close .result)
-    (sym (at-short .is-short .ensures) ∙ at-if1 .if1 .left)
-    (rw (at-settings .settings-of .ensures, at-record .judge-of .ensures) at (at-close .close .ensures)))
+    close-done (a .settings .now) (a .«record» .now) (a .store .now) (a .answer .now)
+    (at-settings .settings-of .result) (at-record .judge-of .result) (at-close .close .result)
+    (sym (at-short .is-short .ensures) ∙ at-if1 .if1 .left) (at-settings .settings-of .ensures) (at-record .judge-of .ensures) (at-close .close .ensures)
+    (c .closed-refusal .ensures) (at-numbers .close-numbers .ensures) (at-put .put .ensures)
 
 pub itz-judge-close-spec : {M : Type 1} → statement M
 itz-judge-close-spec =
@@ -40,5 +40,5 @@ itz-judge-close-spec =
     (λ c. search needs)
     (λ c κs. search needs)
     (λ c κs. search needs)
-    (λ c. search needs)
+    (λ c. c .before .before .answer .given)
     returns-2)

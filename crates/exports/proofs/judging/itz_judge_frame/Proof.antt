@@ -22,11 +22,10 @@ returns-2 c =
     let at-if1 = at-settings .before in
     let at-short = at-if1 .before in
     let a = at-short .before .before .before .before .before .args in
-    let store = at-frame .frame .last .1 .1 .0 in
-    rw (at-keep .keep .ensures, at-numbers .judge-numbers .ensures)
-    (judge-done (a .settings .now) (a .«record» .now) (a .store .now) (a .frame .now) (at-frame .frame .result) store
-    (sym (at-short .is-short .ensures) ∙ at-if1 .if1 .left)
-    (rw (at-settings .settings-of .ensures, at-record .judge-of .ensures) at (at-frame .frame .ensures)))
+    judge-done (a .settings .now) (a .«record» .now) (a .store .now) (a .frame .now)
+    (at-settings .settings-of .result) (at-record .judge-of .result) (at-frame .frame .result)
+    (sym (at-short .is-short .ensures) ∙ at-if1 .if1 .left) (at-settings .settings-of .ensures) (at-record .judge-of .ensures) (at-frame .frame .ensures)
+    (at-numbers .judge-numbers .ensures) (at-keep .keep .ensures)
 
 pub itz-judge-frame-spec : {M : Type 1} → statement M
 itz-judge-frame-spec =
@@ -41,6 +40,6 @@ itz-judge-frame-spec =
     (λ c κs. search needs)
     (λ c. search needs)
     (λ c κs. search needs)
-    (λ c. search needs)
-    (λ c. search needs)
+    (λ c. c .before .«record» .given)
+    (λ c. c .before .before .before .before .before .before .before .before .store .given)
     returns-2)

@@ -27,11 +27,10 @@ returns-2 c =
     let at-if1 = at-settings .before in
     let at-short = at-if1 .before in
     let a = at-short .before .before .before .before .before .args in
-    let frame = at-call .flush .last .1 .1 .0 in
-    rw (at-put .put .ensures, at-keep .keep .ensures, at-numbers .flush-numbers .ensures frame, at-next .next-mux .ensures frame, at-refusal .reply-refusal .ensures frame)
-    (mux-done to-flush 1 flush-numbers (a .settings .now) (a .«record» .now) (a .frame .now) (a .answer .now) (at-call .flush .result) frame
-    (sym (at-short .is-short .ensures) ∙ at-if1 .if1 .left)
-    (rw (at-settings .settings-of .ensures, at-record .mux-of .ensures) at (at-call .flush .ensures)))
+    mux-done to-flush 1 flush-numbers (a .settings .now) (a .«record» .now) (a .frame .now) (a .answer .now)
+    (at-settings .settings-of .result) (at-record .mux-of .result) (at-call .flush .result)
+    (sym (at-short .is-short .ensures) ∙ at-if1 .if1 .left) (at-settings .settings-of .ensures) (at-record .mux-of .ensures) (at-call .flush .ensures)
+    (at-refusal .reply-refusal .ensures) (at-next .next-mux .ensures) (at-numbers .flush-numbers .ensures) (at-keep .keep .ensures) (at-put .put .ensures)
 
 pub itz-mux-flush-spec : {M : Type 1} → statement M
 itz-mux-flush-spec =
@@ -49,7 +48,7 @@ itz-mux-flush-spec =
     (λ c κs. search needs)
     (λ c. search needs)
     (λ c κs. search needs)
-    (λ c. search needs)
-    (λ c. search needs)
-    (λ c. search needs)
+    (λ c. c .before .before .before .before .before .before .«record» .given)
+    (λ c. c .before .before .before .before .before .before .before .before .before .before .before .before .before .before .frame .given)
+    (λ c. c .before .answer .given)
     returns-2)

@@ -1,6 +1,6 @@
 -- `exports::mux::itz_mux_idle` meets its contract: the arrays' lengths are tested first; then the numbers are those of the library's answer.
 -- Assumes nothing.
-use mathlib.Core.Path.{sym, _∙_}
+use mathlib.Core.Path.{refl, sym, _∙_}
 use mathlib.Core.List.{[]}
 use Rattle.octets.specs.Basics.{over, laid}
 use Rattle.multiplexer.specs.Calls.{to-idle}
@@ -28,11 +28,10 @@ returns-2 c =
     let at-if1 = at-settings .before in
     let at-short = at-if1 .before in
     let a = at-short .before .before .before .before .args in
-    let frame = at-call .idle-zone .last .1 .1 .0 in
-    rw (at-keep .keep .ensures, at-next .next-mux .ensures frame, at-refusal .reply-refusal .ensures frame)
-    (mux-done to-idle 0 no-numbers (a .settings .now) (a .«record» .now) (a .frame .now) [] (at-call .idle-zone .result) frame
-    (sym (at-short .is-short .ensures) ∙ at-if1 .if1 .left)
-    (rw (at-settings .settings-of .ensures, at-record .mux-of .ensures) at (at-call .idle-zone .ensures)))
+    mux-done to-idle 0 no-numbers (a .settings .now) (a .«record» .now) (a .frame .now) []
+    (at-settings .settings-of .result) (at-record .mux-of .result) (at-call .idle-zone .result)
+    (sym (at-short .is-short .ensures) ∙ at-if1 .if1 .left) (at-settings .settings-of .ensures) (at-record .mux-of .ensures) (at-call .idle-zone .ensures)
+    (at-refusal .reply-refusal .ensures) (at-next .next-mux .ensures) (λ frame. refl) (at-keep .keep .ensures) refl
 
 pub itz-mux-idle-spec : {M : Type 1} → statement M
 itz-mux-idle-spec =
@@ -47,6 +46,6 @@ itz-mux-idle-spec =
     (λ c κs. search needs)
     (λ c. search needs)
     (λ c κs. search needs)
-    (λ c. search needs)
-    (λ c. search needs)
+    (λ c. c .before .«record» .given)
+    (λ c. c .before .before .before .before .before .before .before .before .frame .given)
     returns-2)

@@ -27,11 +27,10 @@ returns-2 c =
     let at-if1 = at-settings .before in
     let at-short = at-if1 .before in
     let a = at-short .before .before .before .before .before .before .args in
-    let frame = at-call .put .last .1 .1 .1 .0 in
-    rw (at-put .put2 .ensures, at-keep .keep .ensures, at-numbers .put-numbers .ensures frame, at-next .next-mux .ensures frame, at-refusal .reply-refusal .ensures frame)
-    (mux-done (to-put (a .packet .now)) 2 put-numbers (a .settings .now) (a .«record» .now) (a .frame .now) (a .answer .now) (at-call .put .result) frame
-    (sym (at-short .is-short .ensures) ∙ at-if1 .if1 .left)
-    (rw (at-settings .settings-of .ensures, at-record .mux-of .ensures) at (at-call .put .ensures)))
+    mux-done (to-put (a .packet .now)) 2 put-numbers (a .settings .now) (a .«record» .now) (a .frame .now) (a .answer .now)
+    (at-settings .settings-of .result) (at-record .mux-of .result) (at-call .put .result)
+    (sym (at-short .is-short .ensures) ∙ at-if1 .if1 .left) (at-settings .settings-of .ensures) (at-record .mux-of .ensures) (at-call .put .ensures)
+    (at-refusal .reply-refusal .ensures) (at-next .next-mux .ensures) (at-numbers .put-numbers .ensures) (at-keep .keep .ensures) (at-put .put2 .ensures)
 
 pub itz-mux-put-spec : {M : Type 1} → statement M
 itz-mux-put-spec =
@@ -49,7 +48,7 @@ itz-mux-put-spec =
     (λ c κs. search needs)
     (λ c. search needs)
     (λ c κs. search needs)
-    (λ c. search needs)
-    (λ c. search needs)
-    (λ c. search needs)
+    (λ c. c .before .before .before .before .before .before .«record» .given)
+    (λ c. c .before .before .before .before .before .before .before .before .before .before .before .before .before .before .frame .given)
+    (λ c. c .before .answer .given)
     returns-2)

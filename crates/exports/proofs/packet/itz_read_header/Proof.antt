@@ -1,6 +1,5 @@
 -- `exports::packet::itz_read_header` meets its contract: the array's length is tested first, and the numbers are the answer's.
 -- Assumes nothing.
-use mathlib.Core.Path.{refl}
 use borrow.Author.Tests.{lt-ltb, le-ltb}
 use Rattle.exports.specs.Packet.{header-leaves}
 use borrow.Author.Needs.{needs}
@@ -9,11 +8,16 @@ use Rattle.exports.proofs.packet.itz_read_header.Tie as tie
 
 returns : tie.Need-returns
 unfolding header-leaves
-returns c = rw (lt-ltb _ _ (c .if1 .taken)) refl
+returns c = rw (lt-ltb _ _ (c .if1 .taken))
 
 returns-2 : tie.Need-returns-2
 unfolding header-leaves
-returns-2 c = rw (le-ltb _ _ (c .before .before .before .before .before .before .before .before .if1 .left)) (cc)
+returns-2 c =
+    let at-put = c .before .before .before in
+    let at-numbers = at-put .before .before .before in
+    let at-call = at-numbers .before in
+    rw
+    (le-ltb _ _ (at-call .before .if1 .left), c .header-refusal .ensures, at-put .put .ensures, at-numbers .header-numbers .ensures, at-call .read-header .ensures)
 
 pub itz-read-header-spec : {M : Type 1} → statement M
 itz-read-header-spec =
@@ -25,5 +29,5 @@ itz-read-header-spec =
     (λ c. search needs)
     (λ c κs. search needs)
     (λ c κs. search needs)
-    (λ c. search needs)
+    (λ c. c .before .before .answer .given)
     returns-2)

@@ -1,7 +1,6 @@
 -- `exports::packet::itz_wrap` meets its contract: the array's length is tested first; the numbers are the answer's, and cutting
 -- protocol and extension to octets changes nothing.
 -- Assumes nothing.
-use mathlib.Core.Path.{refl}
 use borrow.Author.Tests.{lt-ltb}
 use Rattle.exports.specs.Packet.{wrap-leaves}
 use Rattle.exports.proofs.Wraps.{wrap-done}
@@ -11,7 +10,7 @@ use Rattle.exports.proofs.packet.itz_wrap.Tie as tie
 
 returns : tie.Need-returns
 unfolding wrap-leaves
-returns c = rw (lt-ltb _ _ (c .if1 .taken)) refl
+returns c = rw (lt-ltb _ _ (c .if1 .taken))
 
 returns-2 : tie.Need-returns-2
 returns-2 c =
@@ -37,6 +36,6 @@ itz-wrap-spec =
     (λ c. search needs)
     (λ c κs. search needs)
     (λ c κs. search needs)
-    (λ c. search needs)
-    (λ c. search needs)
+    (λ c. c .before .before .before .before .before .before .before .before .packet .given)
+    (λ c. c .before .before .answer .given)
     returns-2)
