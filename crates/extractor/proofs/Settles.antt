@@ -199,12 +199,15 @@ module _ (s : Settings) (f : List ℕ) (ok : in-range s ≡ true) (right : lengt
       same far
       (rw (← rest) (again k st last 0 next (omega arith) wheel (in-zone high) (omega arith) (rw rest shorter))))
 
-  spends : (n : ℕ) → Spends n
+  one-spends : (n : ℕ) → Spends n → Spends (suc n)
   unfolding steps is-entered
-  spends zero k store last h at room wheel p time turns = absurd (omega arith)
-  spends (suc n) k store last h at room wheel p time turns =
+  one-spends n again k store last h at room wheel p time turns =
       rw (call-is-step s (Walking last h at) store f ok room (walking-reachable s store last wheel p) refl right)
-      (turn-settles n k store last h at room wheel time turns (spends n) (walking-turn s f store ok right room last p))
+      (turn-settles n k store last h at room wheel time turns again (walking-turn s f store ok right room last p))
+
+  spends : (n : ℕ) → Spends n
+  spends zero = λ k store last h at room wheel p time turns. absurd (omega arith)
+  spends (suc n) = one-spends n (spends n)
 
 -- ---- a frame entered
 

@@ -1,51 +1,90 @@
 -- `arriving::taken` meets its contract: what is said of the frame, and where its walk sets out.
 -- Assumes nothing.
 use mathlib.Core.Path.{_≡_, ap, _∙_}
+use mathlib.Core.List.{List}
+use mathlib.Core.Bool.{Bool, false}
+use Prim.Native.Nat.{ℕ}
+use Rattle.octets.specs.Basics.{first}
 use Rattle.frames.specs.Frame.{count, replay, pointer}
+use Rattle.frames.specs.declared.Settings.{Settings}
 use Rattle.frames.specs.declared.Heading.{Heading}
 use Rattle.frames.proofs.Accepted.{accepted-heading}
-use Rattle.extractor.specs.Answers.{entered-numbers}
+use Rattle.extractor.specs.Extract.{lost-since, reason-of}
+use Rattle.extractor.specs.Records.{enter-rows, last-count, held-in, is-in-step, stands-for, set-off}
+use Rattle.extractor.specs.Answers.{entered-numbers, enter-says, entered-as}
+use Rattle.extractor.specs.Walks.{Heads}
+use Rattle.extractor.specs.declared.Extractor.{Extractor}
+use Rattle.extractor.specs.declared.Entered.the-variants.{Taken}
+use Rattle.extractor.specs.declared.Entering.{Entering}
 use Rattle.extractor.proofs.Unrefused.{Arrives, arrives}
 use Rattle.extractor.proofs.Arrivals.{nothing-dropped, all-dropped}
 use borrow.Author.Needs.{needs}
 use Rattle.extractor.proofs.arriving.taken.Statement.{statement}
 use Rattle.extractor.proofs.arriving.taken.Tie as tie
 
-arrived : (c : tie.Start) → Arrives (c .args .s) (c .args .x) (c .args .store .now) (c .args .frame .now)
-arrived c = arrives (c .args .s) (c .args .x) (c .args .store .now) (c .args .frame .now) (c .pre .0)
+abbrev answer : Heading → ℕ → ℕ → ℕ → Extractor → Entering
+answer h lost dropped reason next =
+    record { entered = Taken (record { count = h .count; replay = h .replay; lost = lost; dropped = dropped; reason = reason }); next = next }
 
-heads : (c : tie.Start) → c .args .heading ≡ record {
-  refusal = 0;
-  count = count (c .args .s) (c .args .frame .now);
-  replay = replay (c .args .s) (c .args .frame .now);
-  pointer = pointer (c .args .s) (c .args .frame .now);
-}
-heads c = c .pre .1 ∙ accepted-heading (c .args .s) (c .args .frame .now) (arrived c .accepts)
+-- what is answered, by what the calls give
+module _ (s : Settings) (x : Extractor) (h : Heading) (store f : List ℕ) (admits : first (enter-rows s x store f) ≡ 0) (says : Heads s f h) where
+  arrived : Arrives s x store f
+  arrived = arrives s x store f admits
+
+  heads : h ≡ record { refusal = 0; count = count s f; replay = replay s f; pointer = pointer s f }
+  heads = says ∙ accepted-heading s f (arrived .accepts)
+
+  counts : h .count ≡ count s f
+  counts = ap (λ (g : Heading). g .count) heads
+
+  points : h .pointer ≡ pointer s f
+  points = ap (λ (g : Heading). g .pointer) heads
+
+  module _ {lost reason dropped : ℕ} (missed : lost ≡ lost-since s (last-count x) (h .count)) (reasoned : reason ≡ reason-of s (stands-for store x) f)
+      (held : dropped ≡ held-in x) {next : Extractor} where
+    kept : reason ≡ 0 → {inside : Bool} → inside ≡ is-in-step x → next ≡ set-off s (h .count) (h .pointer) inside dropped
+        → enter-says (answer h lost 0 reason next) ≡ entered-as s x store f
+    unfolding entered-numbers
+    kept none inside set =
+        nothing-dropped arrived _ _ _ _ _ counts (ap (λ (g : Heading). g .replay) heads) points missed reasoned next none (cc)
+
+    lost-all : (reason ≡ 0 → ⊥) → next ≡ set-off s (h .count) (h .pointer) false 0 → enter-says (answer h lost dropped reason next) ≡ entered-as s x store f
+    unfolding entered-numbers
+    lost-all some set =
+        all-dropped arrived _ _ _ _ _ counts (ap (λ (g : Heading). g .replay) heads) points missed reasoned dropped next held some set
 
 reason-of-requires : tie.Need-reason-of-requires
 reason-of-requires c κs =
-    let b = c .before .before .before .before in
-    (b .pre .0, (rw (← ap (λ (h : Heading). h .count) (heads b)) (c .lost-since .ensures), ap (λ (h : Heading). h .pointer) (heads b)))
+    let start = c .before .before .before .before in
+    let a = start .args in
+    let admits = start .pre .0 in
+    let says = start .pre .1 in (
+      admits,
+      (
+        c .lost-since .ensures ∙ ap (lost-since (a .s) (last-count (a .x))) (counts (a .s) (a .x) (a .heading) (a .store .now) (a .frame .now) admits says),
+        points (a .s) (a .x) (a .heading) (a .store .now) (a .frame .now) admits says,
+      ),
+    )
 
 returns : tie.Need-returns
-unfolding entered-numbers
 returns c =
-    let at-reason = c .before .before .before .before in
-    let b = at-reason .before .before .before .before .before in
-    nothing-dropped (arrived b) _ _ _ _ _
-    (ap (λ (h : Heading). h .count) (heads b)) (ap (λ (h : Heading). h .replay) (heads b)) (ap (λ (h : Heading). h .pointer) (heads b))
-    (at-reason .before .lost-since .ensures) (at-reason .reason-of .ensures)
-    (c .set-off .result) (c .before .before .if1 .taken) (c .set-off .ensures ∙ cc)
+    let at-held = c .before .before .before in
+    let at-reason = at-held .before in
+    let start = at-reason .before .before .before .before .before in
+    let a = start .args in
+    kept (a .s) (a .x) (a .heading) (a .store .now) (a .frame .now) (start .pre .0) (start .pre .1)
+    (at-reason .before .lost-since .ensures) (at-reason .reason-of .ensures) (at-held .held-in .ensures)
+    (c .before .before .if1 .taken) (c .before .is-in-step .ensures) (c .set-off .ensures)
 
 returns-2 : tie.Need-returns-2
-unfolding entered-numbers
 returns-2 c =
-    let at-reason = c .before .before .before in
-    let b = at-reason .before .before .before .before .before in
-    all-dropped (arrived b) _ _ _ _ _
-    (ap (λ (h : Heading). h .count) (heads b)) (ap (λ (h : Heading). h .replay) (heads b)) (ap (λ (h : Heading). h .pointer) (heads b))
-    (at-reason .before .lost-since .ensures) (at-reason .reason-of .ensures)
-    (c .before .before .held-in .result) (c .set-off2 .result) (c .before .before .held-in .ensures) (c .before .if1 .left) (c .set-off2 .ensures)
+    let at-held = c .before .before in
+    let at-reason = at-held .before in
+    let start = at-reason .before .before .before .before .before in
+    let a = start .args in
+    lost-all (a .s) (a .x) (a .heading) (a .store .now) (a .frame .now) (start .pre .0) (start .pre .1)
+    (at-reason .before .lost-since .ensures) (at-reason .reason-of .ensures) (at-held .held-in .ensures)
+    (c .before .if1 .left) (c .set-off2 .ensures)
 
 pub taken-spec : {M : Type 1} → statement M
 taken-spec =

@@ -16,15 +16,15 @@ mul-result c =
 
 returns : tie.Need-returns
 unfolding counts-well
-returns c = cc
+returns c = rw (c .enum-told .given .1)
 
 returns-2 : tie.Need-returns-2
 unfolding counts-well
-returns-2 c = cc
+returns-2 c = rw (c .before .before .j .given .1)
 
 returns-3 : tie.Need-returns-3
 unfolding counts-well
-returns-3 c = cc
+returns-3 c = rw (c .before .j2 .given .1)
 
 pub counts-well-spec : {M : Type 1} → statement M
 counts-well-spec =

@@ -5,7 +5,7 @@ use Rattle.judge.proofs.record.extractor_of.Statement.{statement}
 use Rattle.judge.proofs.record.extractor_of.Tie as tie
 
 returns-2 : tie.Need-returns-2
-returns-2 c = cc
+returns-2 c = rw (c .before .j .given .1)
 
 pub extractor-of-spec : {M : Type 1} → statement M
 extractor-of-spec =

@@ -30,7 +30,7 @@ returns c =
 
 returns-2 : tie.Need-returns-2
 unfolding goes-on-from
-returns-2 c = cc
+returns-2 c = rw (c .before .x .given .1)
 
 pub goes-on-from-spec : {M : Type 1} → statement M
 goes-on-from-spec =
