@@ -22,6 +22,7 @@ use borrow.Author.Needs.{needs}
 use Rattle.extractor.proofs.arriving.taken.Statement.{statement}
 use Rattle.extractor.proofs.arriving.taken.Tie as tie
 
+-- a frame that is taken, and the record after it
 abbrev answer : Heading → ℕ → ℕ → ℕ → Extractor → Entering
 answer h lost dropped reason next =
     record { entered = Taken (record { count = h .count; replay = h .replay; lost = lost; dropped = dropped; reason = reason }); next = next }
@@ -58,13 +59,10 @@ reason-of-requires c κs =
     let start = c .before .before .before .before in
     let a = start .args in
     let admits = start .pre .0 in
-    let says = start .pre .1 in (
-      admits,
-      (
-        c .lost-since .ensures ∙ ap (lost-since (a .s) (last-count (a .x))) (counts (a .s) (a .x) (a .heading) (a .store .now) (a .frame .now) admits says),
-        points (a .s) (a .x) (a .heading) (a .store .now) (a .frame .now) admits says,
-      ),
-    )
+    let says = start .pre .1 in
+    let counted = counts (a .s) (a .x) (a .heading) (a .store .now) (a .frame .now) admits says in
+    let pointed = points (a .s) (a .x) (a .heading) (a .store .now) (a .frame .now) admits says in
+    (admits, (c .lost-since .ensures ∙ ap (lost-since (a .s) (last-count (a .x))) counted, pointed))
 
 returns : tie.Need-returns
 returns c =
