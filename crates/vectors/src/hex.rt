@@ -1,34 +1,56 @@
 // Octets written as text, two hexadecimal digits each and a space between.
+ghost use Prim.Native.Nat.{_<_};
+ghost use lib.ListN.{length};
 
-// The value of a digit; 0 for any other sign.
-fn value(sign: u8) -> u8 {
+// Octets of a line, at the front of `octets`.
+pub struct Given {
+    pub size: usize,
+    pub octets: [u8; 4096],
+}
+
+pub const NONE: Given = Given {
+    size: 0,
+    octets: [0; 4096],
+};
+
+// The value of a digit; 16 for any other sign.
+pub fn value(sign: u8) -> u8 {
     match sign {
         b'0'..=b'9' => sign - b'0',
         b'A'..=b'F' => sign - b'A' + 10,
-        _ => 0,
+        _ => 16,
     }
 }
 
-// Reads a text into the front of `out`, as far as there is room, and answers how many octets it has.
-pub fn read(text: &[u8], out: &mut [u8]) -> usize {
-    let mut at = 0;
-    let mut n = 0;
-    while at < text.len() && n < out.len() {
-        out[n] = (value(text[at]) << 4) | value(octets::octet(text, at + 1));
+// The octet whose digits stand at `at`, with a space or the line's end behind them; 256 where there is none.
+fn octet(line: &[u8], at: usize) -> usize
+    requires { ⌜ at < length (now line) ⌝ }
+{
+    let high = value(line[at]);
+    let low = value(octets::octet(line, at + 1));
+    let behind = octets::octet(line, at + 2);
+    if ((high | low) < 16) & ((behind == 0) | (behind == b' ')) {
+        return high as usize * 16 + low as usize;
+    }
+    256
+}
+
+// The octets from `from` to the line's end; none where they are not written so, or are more than 4,096.
+pub fn read(line: &[u8], from: usize) -> Given {
+    let mut octets = [0u8; 4096];
+    let mut at = from;
+    let mut size = 0;
+    while at < line.len() && size < 4096 {
+        let octet = octet(line, at);
+        if octet > 255 {
+            return Given { size: 0, octets };
+        }
+        octets[size] = octet as u8;
         at += 3;
-        n += 1;
+        size += 1;
     }
-    n
-}
-
-// The `size` octets from `start`; none where they run past the end.
-pub fn part<'a>(s: &'a [u8], start: usize, size: usize) -> &'a [u8] {
-    if s.len() < start {
-        return &s[..0];
+    if at != line.len() + 1 {
+        size = 0;
     }
-    if s.len() - start < size {
-        return &s[..0];
-    }
-    let end = start + size;
-    &s[start..end]
+    Given { size, octets }
 }

@@ -1,19 +1,21 @@
-// Runs what document 01 leaves to be run, and the vectors that the sources publish: a line for each answer.
+// Runs the vectors that stand in the text of standard input, line by line, and prints a line for each answer.
+use libc::STDIN_FILENO;
+
+mod ask;
 mod bits;
+mod forms;
 mod hex;
-mod passes;
-mod path;
 mod run;
 mod say;
-mod wrapping;
-mod zones;
+mod script;
+mod text;
 
+// The text ends before the buffer does.
 fn main() {
-    wrapping::all();
-    passes::all();
-    zones::writing();
-    zones::reading();
-    bits::all();
-    path::lendings();
-    path::runs();
+    let mut text = io::large_buffer();
+    let n = io::read_full(STDIN_FILENO, &mut text);
+    if n < text.len() {
+        return script::follow(&text[..n]);
+    }
+    say::text(b"the text has more than 65535 octets\n");
 }

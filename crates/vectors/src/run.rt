@@ -1,6 +1,11 @@
 // One channel from end to end: packets go through the multiplexer, and an extractor hears each frame that is written.
-use crate::hex;
+use crate::forms::Call;
+use crate::forms::Numbers;
+use crate::hex::Given;
 use crate::say;
+use crate::text;
+use bitstream::Reader;
+use bitstream::Writer;
 use extractor::Entered;
 use extractor::Entry;
 use extractor::Extractor;
@@ -10,58 +15,95 @@ use frames::Settings;
 use multiplexer::Mux;
 use multiplexer::Reply;
 
-// Both ends of a channel.
+// The end that packets come out of: the extractor, and the store of what it holds.
+pub struct Receiver {
+    pub extractor: Extractor,
+    pub store: [u8; 4096],
+}
+
+// The end that bits come out of.
+pub struct BitReceiver {
+    pub reader: Reader,
+}
+
+// Both ends of a channel, and what the lines on it begin with. Packets go in at the multiplexer, which fills the frame, and bits at
+// the writer.
 pub struct Ends {
+    pub label: Given,
     pub settings: Settings,
     pub mux: Mux,
-    pub extractor: Extractor,
+    pub frame: [u8; 2054],
+    pub receiver: Receiver,
+    pub writer: Writer,
+    pub bits: BitReceiver,
 }
 
-// A channel of source 000's spacecraft, with a zone of so many octets and packets of 64 at most.
-pub fn channel(number: u32, zone: usize) -> Settings {
-    Settings {
-        link: Link {
-            spacecraft: 5,
-            channel: number,
-        },
-        zone,
-        limit: 64,
-        fill: 0x55,
-    }
+// What the multiplexer answered, and the channel with the frame after it.
+struct Called {
+    reply: Reply,
+    ends: Ends,
 }
 
-pub fn begin(settings: Settings) -> Ends {
+// A channel at its beginning, with 55 for its fill: its number, the spacecraft, the zone and the limit.
+pub fn begin(label: Given, n: Numbers) -> Ends {
     Ends {
-        settings,
+        label,
+        settings: Settings {
+            link: Link {
+                spacecraft: (n.second % 4294967296) as u32,
+                channel: (n.first % 4294967296) as u32,
+            },
+            zone: n.third,
+            limit: n.last,
+            fill: 0x55,
+        },
         mux: multiplexer::begin(),
-        extractor: Extractor::Fresh,
+        frame: [0; 2054],
+        receiver: Receiver {
+            extractor: Extractor::Fresh,
+            store: [0; 4096],
+        },
+        writer: bitstream::BEGUN,
+        bits: BitReceiver {
+            reader: Reader::Fresh,
+        },
     }
 }
 
-// The line of a frame that was written: its pointer and its octets.
-fn wrote(label: &[u8], s: Settings, frame: &[u8]) {
-    let head = frames::read_head(s, frame);
-    say::text(label);
-    say::number(b" writes P ", head.pointer as u64);
-    say::text(b":");
-    say::octets(frame);
-    say::end();
+// The line from `from` on for a label.
+pub fn label(e: Ends, line: &[u8], from: usize) -> Ends {
+    let mut octets = [0u8; 4096];
+    octets::lay(&mut octets, 0, line, from, line.len());
+    let label = Given {
+        size: octets::less(line.len(), from),
+        octets,
+    };
+    let mut after = e;
+    after.label = label;
+    after
+}
+
+// The octets of a frame; 0 where the zone is out of range.
+pub fn frame_length(s: Settings) -> usize {
+    let zone = s.zone;
+    if zone > 2047 { 0 } else { zone + 8 }
 }
 
 fn entered(e: Entry) {
-    say::number(b"frame ", e.count as u64);
-    say::number(b" lost ", e.lost as u64);
-    say::number(b" dropped ", e.dropped as u64);
-    say::number(b" reason ", e.reason as u64);
+    say::numbers(
+        say::FRAME,
+        e.count as u64,
+        e.lost as u64,
+        e.dropped as u64,
+        e.reason as u64,
+    );
 }
 
 // A packet that was handed over: what its header says and, unless it is idle, its octets.
-fn handed(limit: usize, p: &[u8], idle: bool) {
-    say::text(b"; ");
-    say::header(packets::read_header(limit, p));
-    if !idle {
-        say::text(b" =");
-        say::octets(p);
+fn handed(limit: usize, p: &[u8]) {
+    say::phrase(say::NEXT);
+    if !say::header(packets::read_header(limit, p)) {
+        say::shown(p);
     }
 }
 
@@ -69,102 +111,102 @@ fn handed(limit: usize, p: &[u8], idle: bool) {
 fn found<'a>(limit: usize, frame: &'a [u8], store: &'a [u8], f: Found) -> bool {
     match f {
         Found::Refused { refusal } => {
-            say::text(b"; ");
+            say::phrase(say::NEXT);
             say::refused(refusal);
             false
         }
-        Found::InFrame {
-            start: _,
-            size: _,
-            idle,
-        } => {
-            handed(limit, extractor::show(frame, store, f), idle);
-            true
-        }
-        Found::InStore { size: _, idle } => {
-            handed(limit, extractor::show(frame, store, f), idle);
-            true
-        }
         Found::Damaged => {
-            say::text(b"; damaged");
+            say::phrase(say::NEXT);
+            say::phrase(say::DAMAGED);
             true
         }
         Found::Spent => false,
+        _ => {
+            handed(limit, extractor::show(frame, store, f));
+            true
+        }
     }
 }
 
 // Steps through a frame that is entered until it is spent: with the longest zone that takes 2,047 steps at most.
-fn walk(s: Settings, x: Extractor, frame: &[u8], store: &mut [u8]) -> Extractor {
-    let mut now = x;
+fn walk(s: Settings, r: Receiver, frame: &[u8]) -> Receiver {
+    let mut extractor = r.extractor;
+    let mut store = r.store;
     let mut left: usize = 2047;
     while left > 0 {
-        let step = extractor::step(s, now, store, frame);
-        now = step.next;
+        let step = extractor::step(s, extractor, &mut store, frame);
+        extractor = step.next;
         let f = step.found;
-        if !found(s.limit, frame, store, f) {
-            return now;
+        if !found(s.limit, frame, &store, f) {
+            return Receiver { extractor, store };
         }
         left -= 1;
     }
-    now
+    Receiver { extractor, store }
 }
 
-// The line of a frame that is read: all that the extractor says of it.
-pub fn hear(label: &[u8], s: Settings, x: Extractor, frame: &[u8], store: &mut [u8]) -> Extractor {
-    say::text(label);
-    say::text(b" reads ");
-    let answer = extractor::enter(s, x, store, frame);
-    let next = answer.next;
+// All that the extractor says of a frame.
+fn listen(s: Settings, r: Receiver, frame: &[u8]) -> Receiver {
+    let before = r.extractor;
+    let store = r.store;
+    let answer = extractor::enter(s, before, &store, frame);
     let said = answer.entered;
     match said {
         Entered::Refused { refusal } => {
             say::refused(refusal);
-            say::end();
-            next
+            r
         }
         Entered::Taken { entry } => {
             entered(entry);
-            let after = walk(s, next, frame, store);
-            say::end();
-            after
+            let extractor = answer.next;
+            walk(s, Receiver { extractor, store }, frame)
         }
     }
 }
 
+// The line of a frame that is read.
+pub fn hear(e: Ends, frame: &[u8]) -> Ends {
+    say::label(e.label);
+    say::phrase(say::READS);
+    let receiver = listen(e.settings, e.receiver, frame);
+    say::end();
+    let mut after = e;
+    after.receiver = receiver;
+    after
+}
+
+// The line of a frame that is full, with its pointer and its octets; then it is heard.
+fn full(e: Ends) -> Ends {
+    let frame = e.frame;
+    let whole = text::part(&frame, 0, frame_length(e.settings));
+    let head = frames::read_head(e.settings, whole);
+    say::label(e.label);
+    say::number(say::WRITES, head.pointer as u64);
+    say::octets(whole);
+    say::end();
+    hear(e, whole)
+}
+
 // What the multiplexer answered: a refusal is said, and a frame that is full is said and heard.
-fn answered(label: &[u8], e: Ends, r: Reply, frame: &[u8], store: &mut [u8]) -> Ends {
-    let settings = e.settings;
-    let extractor = e.extractor;
+fn answered(e: Ends, r: Reply) -> Ends {
     match r {
-        Reply::Refused { refusal, mux } => {
-            say::text(label);
-            say::text(b" ");
+        Reply::Refused { refusal, mux: _ } => {
+            say::label(e.label);
             say::refused(refusal);
             say::end();
-            Ends {
-                settings,
-                mux,
-                extractor,
-            }
+            e
         }
         Reply::Done {
-            full,
+            full: is_full,
             taken: _,
             mux,
         } => {
-            if !full {
-                return Ends {
-                    settings,
-                    mux,
-                    extractor,
-                };
+            let mut after = e;
+            after.mux = mux;
+            if is_full {
+                return full(after);
             }
-            wrote(label, settings, frame);
-            Ends {
-                settings,
-                mux,
-                extractor: hear(label, settings, extractor, frame, store),
-            }
+            after
         }
     }
 }
@@ -181,13 +223,30 @@ fn is_done(r: Reply) -> bool {
     }
 }
 
-// Puts a packet until it is taken: no packet of this channel takes more than 64 calls.
-fn put(label: &[u8], e: Ends, p: &[u8], frame: &mut [u8], store: &mut [u8]) -> Ends {
+// One call of the multiplexer.
+fn call(c: Call, e: Ends, p: &[u8]) -> Called {
+    let s = e.settings;
+    let m = e.mux;
+    let mut frame = e.frame;
+    let reply = match c {
+        Call::Put => multiplexer::put(s, m, p, &mut frame),
+        Call::Flush => multiplexer::flush(s, m, &mut frame),
+        Call::IdleZone => multiplexer::idle_zone(s, m, &mut frame),
+    };
+    let mut ends = e;
+    ends.frame = frame;
+    Called { reply, ends }
+}
+
+// Calls the multiplexer until the packet is taken, to which each call that is not refused adds an octet at least; once where there
+// is no packet.
+pub fn transmit(c: Call, e: Ends, p: &[u8]) -> Ends {
     let mut now = e;
-    let mut left: usize = 64;
+    let mut left = p.len() + 1;
     while left > 0 {
-        let reply = multiplexer::put(now.settings, now.mux, p, frame);
-        now = answered(label, now, reply, frame, store);
+        let called = call(c, now, p);
+        let reply = called.reply;
+        now = answered(called.ends, reply);
         if is_done(reply) {
             return now;
         }
@@ -196,26 +255,36 @@ fn put(label: &[u8], e: Ends, p: &[u8], frame: &mut [u8], store: &mut [u8]) -> E
     now
 }
 
-// Sends a packet that is written as text.
-pub fn send(label: &[u8], e: Ends, text: &[u8], frame: &mut [u8], store: &mut [u8]) -> Ends {
-    let mut p = [0u8; 64];
-    let n = hex::read(text, &mut p);
-    put(label, e, hex::part(&p, 0, n), frame, store)
+// What the multiplexer answered to one call.
+fn replied(r: Reply) {
+    match r {
+        Reply::Refused { refusal, mux: _ } => say::refused(refusal),
+        Reply::Done {
+            full,
+            taken,
+            mux: _,
+        } => {
+            say::numbers(say::DONE, full as u64, taken as u64, 0, 0);
+        }
+    }
 }
 
-pub fn flush(label: &[u8], e: Ends, frame: &mut [u8], store: &mut [u8]) -> Ends {
-    let reply = multiplexer::flush(e.settings, e.mux, frame);
-    answered(label, e, reply, frame, store)
+// The line of one call with a packet, and of what its header says.
+fn put_once(e: Ends, p: &[u8]) {
+    say::label(e.label);
+    say::phrase(say::PUT);
+    let called = call(Call::Put, e, p);
+    let reply = called.reply;
+    replied(reply);
+    say::phrase(say::HEADER);
+    say::header(packets::read_header(e.settings.limit, p));
+    say::end();
 }
 
-pub fn idle_zone(label: &[u8], e: Ends, frame: &mut [u8], store: &mut [u8]) -> Ends {
-    let reply = multiplexer::idle_zone(e.settings, e.mux, frame);
-    answered(label, e, reply, frame, store)
-}
-
-// Reads a frame that is written as text.
-pub fn read(label: &[u8], s: Settings, x: Extractor, text: &[u8], store: &mut [u8]) -> Extractor {
-    let mut frame = [0u8; 80];
-    let n = hex::read(text, &mut frame);
-    hear(label, s, x, hex::part(&frame, 0, n), store)
+// One call with a packet of n octets, of which the first are given and the others 0. The channel stays as it was.
+pub fn put_long(e: Ends, n: usize, first: &[u8]) -> Ends {
+    let mut octets = text::longest(0);
+    octets::lay(&mut octets, 0, first, 0, first.len());
+    put_once(e, text::part(&octets, 0, n));
+    e
 }

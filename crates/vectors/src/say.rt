@@ -1,33 +1,145 @@
-// What the lines are made of: text, numbers, and octets in hexadecimal.
+// What the lines are made of: phrases with numbers, and octets in hexadecimal.
+use crate::hex::Given;
+use crate::text;
 use libc::STDOUT_FILENO;
 use packets::Header;
 use packets::Kind;
 
+// The phrases, each by its line, from 0, of the text in `numbers`.
+const REFUSED: usize = 0;
+
+const MORE: usize = 1;
+
+pub const DAMAGED: usize = 2;
+
+const IDLE: usize = 3;
+
+const SPACE: usize = 4;
+
+const ENCAPSULATION: usize = 5;
+
+pub const FRAME: usize = 6;
+
+pub const NEXT: usize = 7;
+
+const OCTETS: usize = 8;
+
+pub const READS: usize = 9;
+
+pub const WRITES: usize = 10;
+
+pub const DONE: usize = 11;
+
+pub const PUT: usize = 12;
+
+pub const HEADER: usize = 13;
+
+pub const WRITES_BITS: usize = 14;
+
+pub const READS_BITS: usize = 15;
+
+pub const WRAPPED: usize = 16;
+
+pub const TOTAL: usize = 17;
+
+pub const ANSWER: usize = 18;
+
+pub const UNIT: usize = 19;
+
+pub const WELL_FORMED: usize = 20;
+
+pub const NOT_WELL_FORMED: usize = 21;
+
+pub const UNKNOWN: usize = 22;
+
 pub fn text(t: &[u8]) {
     io::write_all(STDOUT_FILENO, t);
-}
-
-// A text and a number after it.
-pub fn number(before: &[u8], n: u64) {
-    text(before);
-    io::print_decimal(STDOUT_FILENO, n);
-}
-
-pub fn refused(refusal: u8) {
-    number(b"refused ", refusal as u64);
 }
 
 pub fn end() {
     text(b"\n");
 }
 
-fn digit(d: u8) -> u8 {
-    octets::octet(b"0123456789ABCDEF", d as usize)
+// What a line begins with.
+pub fn label(l: Given) {
+    let octets = l.octets;
+    text(text::part(&octets, 0, l.size));
+}
+
+// A line of the input, after a space.
+pub fn line(line: &[u8]) {
+    text(b" ");
+    text(line);
+}
+
+// A text with numbers, each where a `%` stands.
+fn form(form: &[u8], a: u64, b: u64, c: u64, d: u64) {
+    let mut a = a;
+    let mut b = b;
+    let mut c = c;
+    let mut i = 0;
+    while i < form.len() {
+        let sign = form[i];
+        if sign == b'%' {
+            io::print_decimal(STDOUT_FILENO, a);
+            a = b;
+            b = c;
+            c = d;
+        } else {
+            let shown = [sign];
+            text(&shown);
+        }
+        i += 1;
+    }
+}
+
+// A phrase with numbers, as many as it has.
+pub fn numbers(phrase: usize, a: u64, b: u64, c: u64, d: u64) {
+    let phrases = b" refused %
+ more
+ damaged
+ idle %
+ space % %
+ encap % %
+ frame % lost % dropped % reason %
+;
+ =
+ reads
+ writes P %:
+ full % taken %
+: put
+, header
+ writes % bits, refusal %:
+ reads frame % loss flag % bits % =
+ header
+, total %, last
+:
+ protocol % extension % unit %
+ well-formed, header
+ not well-formed, header
+line % is in none of the forms:
+";
+    form(text::line(phrases, phrase), a, b, c, d);
+}
+
+pub fn number(phrase: usize, n: u64) {
+    numbers(phrase, n, 0, 0, 0);
+}
+
+pub fn phrase(phrase: usize) {
+    numbers(phrase, 0, 0, 0, 0);
+}
+
+pub fn refused(refusal: u8) {
+    number(REFUSED, refusal as u64);
 }
 
 // One octet, after a space.
 fn octet(o: u8) {
-    let shown = [b' ', digit(o / 16), digit(o % 16)];
+    let digits = b"0123456789ABCDEF";
+    let high = octets::octet(digits, (o / 16) as usize);
+    let low = octets::octet(digits, (o % 16) as usize);
+    let shown = [b' ', high, low];
     text(&shown);
 }
 
@@ -40,30 +152,49 @@ pub fn octets(s: &[u8]) {
     }
 }
 
-// A packet by its kind, its APID or protocol, and its length; an idle one by its length alone.
-pub fn kind(kind: Kind, key: u16, idle: bool, total: usize) {
-    if idle {
-        return number(b"idle ", total as u64);
+// What octets something has, unless it has none.
+pub fn shown(s: &[u8]) {
+    if s.len() > 0 {
+        phrase(OCTETS);
     }
-    match kind {
-        Kind::Space => number(b"space ", key as u64),
-        Kind::Encapsulation => number(b"encap ", key as u64),
-    }
-    number(b" ", total as u64);
+    octets(s);
 }
 
-// What the header reader says.
-pub fn header(h: Header) {
+// A packet by its kind, its APID or protocol, and its length; an idle one by its length alone.
+fn kind(kind: Kind, key: u16, idle: bool, total: usize) {
+    if idle {
+        return number(IDLE, total as u64);
+    }
+    match kind {
+        Kind::Space => numbers(SPACE, key as u64, total as u64, 0, 0),
+        Kind::Encapsulation => numbers(ENCAPSULATION, key as u64, total as u64, 0, 0),
+    }
+}
+
+// What the header reader says; whether the packet is idle.
+pub fn header(h: Header) -> bool {
     match h {
-        Header::Refused { refusal } => refused(refusal),
-        Header::More => text(b"more"),
-        Header::Damaged => text(b"damaged"),
+        Header::Refused { refusal } => {
+            refused(refusal);
+            false
+        }
+        Header::More => {
+            phrase(MORE);
+            false
+        }
+        Header::Damaged => {
+            phrase(DAMAGED);
+            false
+        }
         Header::Whole {
             kind: of,
             key,
             idle,
             size: _,
             total,
-        } => kind(of, key, idle, total),
+        } => {
+            kind(of, key, idle, total);
+            idle
+        }
     }
 }

@@ -1,26 +1,29 @@
 use mathlib.Core.Path.{_≡_}
-use borrow.Author.Needs.{needs}
 use lib.ListN.{length}
+use borrow.Author.Needs.{needs}
 use Rattle.vectors.proofs.run.walk.Statement.{statement}
 use Rattle.vectors.proofs.run.walk.Tie as tie
 
 abbrev Inv-loop : tie.InvT-loop
-Inv-loop s frame store₀ now₀ left₀ store now left = length store ≡ length store₀
+Inv-loop s frame extractor₀ store₀ left₀ extractor store left = length store ≡ 4096
 
 abbrev μ-loop : tie.MeasureT-loop
-μ-loop s frame store₀ now₀ left₀ store now left = left
+μ-loop s frame extractor₀ store₀ left₀ extractor store left = left
 
 loop-holds : tie.Need-loop-holds Inv-loop μ-loop
 loop-holds c = search needs
 
+slice-aggregate-step : tie.Need-slice-aggregate-step Inv-loop μ-loop
+slice-aggregate-step c = search needs
+
 step-requires : tie.Need-step-requires Inv-loop μ-loop
 step-requires c κs = search needs
 
+slice-aggregate-found : tie.Need-slice-aggregate-found Inv-loop μ-loop
+slice-aggregate-found c = search needs
+
 found-requires : tie.Need-found-requires Inv-loop μ-loop
 found-requires c κs = search needs
-
-same-length : tie.Need-same-length Inv-loop μ-loop
-same-length c = search needs
 
 returns : tie.Need-returns Inv-loop μ-loop
 returns c = search needs
@@ -34,9 +37,6 @@ loop-less c = search needs
 loop-again : tie.Need-loop-again Inv-loop μ-loop
 loop-again c = search needs
 
-same-length-2 : tie.Need-same-length-2 Inv-loop μ-loop
-same-length-2 c = search needs
-
 returns-2 : tie.Need-returns-2 Inv-loop μ-loop
 returns-2 c = search needs
 
@@ -47,12 +47,12 @@ walk-spec =
     Inv-loop
     μ-loop
     loop-holds
+    slice-aggregate-step
     step-requires
+    slice-aggregate-found
     found-requires
-    same-length
     returns
     sub-left
     loop-less
     loop-again
-    same-length-2
     returns-2)

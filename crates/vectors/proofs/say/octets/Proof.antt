@@ -1,6 +1,6 @@
 use Prim.Native.Nat.{_-_}
-use borrow.Author.Needs.{needs}
 use lib.ListN.{length}
+use borrow.Author.Needs.{needs}
 use Rattle.vectors.proofs.say.octets.Statement.{statement}
 use Rattle.vectors.proofs.say.octets.Tie as tie
 

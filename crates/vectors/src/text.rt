@@ -1,0 +1,54 @@
+// Parts of a text.
+ghost use mathlib.Core.Path.{_≡_};
+ghost use Prim.Native.Nat.{_≤_};
+ghost use lib.ListN.{length};
+
+// As many octets as the longest packet has, all the same.
+pub fn longest(octet: u8) -> [u8; 65542]
+    ensures { λ r. ⌜ 65542 ≡ length r ⌝ }
+{
+    [octet; 65542]
+}
+
+// Where the line ends that `at` lies in.
+pub fn line_end(text: &[u8], at: usize) -> usize
+    requires { ⌜ at ≤ length (now text) ⌝ }
+    ensures { λ r. ⌜ (at ≤ r) × (r ≤ length (now (text .entry))) ⌝ }
+{
+    let mut end = at;
+    while end < text.len() {
+        if text[end] == b'\n' {
+            return end;
+        }
+        end += 1;
+    }
+    end
+}
+
+// The `k`th line of a text, from 0; nothing where it has fewer.
+pub fn line(text: &[u8], k: usize) -> &[u8] {
+    let mut at = 0;
+    let mut left = k;
+    while left > 0 {
+        let end = line_end(text, at);
+        if end == text.len() {
+            return part(text, 0, 0);
+        }
+        at = end + 1;
+        left -= 1;
+    }
+    let end = line_end(text, at);
+    part(text, at, end - at)
+}
+
+// The `size` octets from `start`; none where they run past the end.
+pub fn part<'a>(s: &'a [u8], start: usize, size: usize) -> &'a [u8] {
+    if s.len() < start {
+        return &s[..0];
+    }
+    if s.len() - start < size {
+        return &s[..0];
+    }
+    let end = start + size;
+    &s[start..end]
+}
