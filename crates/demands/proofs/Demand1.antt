@@ -13,10 +13,11 @@ use Rattle.packets.specs.Packet.{Look, more, damaged, whole, look, limit-in-ran
 use Rattle.packets.specs.Header.{bare}
 use Rattle.packets.specs.Header as header
 use Rattle.packets.specs.Wrap.{wrapped, wrapped-total, wrapping, wraps, unwrap-rows, unwrapping, unwraps, unit-part}
-use Rattle.packets.specs.Space.{space-fields, space-word, space-reading, space-reads, space-rows, SpaceWriting, space-writing, space-writes}
+use Rattle.space.specs.Space.{space-fields, space-word, space-reading, space-reads, space-rows, SpaceWriting, space-writing, space-writes}
 use Rattle.packets.specs.declared.wrapping.Wrapped.{Wrapped}
-use Rattle.packets.specs.declared.space.SpaceRead.{SpaceRead}
-use Rattle.packets.proofs.Determined.{header-determined, wrapped-determined, unwrapped-determined, space-determined}
+use Rattle.space.specs.declared.SpaceRead.{SpaceRead}
+use Rattle.packets.proofs.Determined.{header-determined, wrapped-determined, unwrapped-determined}
+use Rattle.space.proofs.Determined.{space-determined}
 use Rattle.frames.specs.Frame.{zone-of, count, replay, pointer, frame-rows, heading-of, heading, head, head-rows}
 use Rattle.frames.specs.BitFrame.{bit-count, bit-replay, bit-pointer, bit-frame-rows, bit-heading, bit-head, bit-head-rows}
 use Rattle.frames.specs.declared.Settings.{Settings}

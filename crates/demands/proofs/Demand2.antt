@@ -2,7 +2,7 @@
 -- Assumes nothing.
 use Rattle.octets.proofs.Fields.{placed-read, placed-below, placed-above}
 use Rattle.packets.proofs.Rounds.{round-trip}
-use Rattle.packets.proofs.Spaces.{space-written-read, space-read-written}
+use Rattle.space.proofs.Spaces.{space-written-read, space-read-written}
 use Rattle.frames.proofs.Settled.{settled}
 use Rattle.frames.proofs.ReadBack.{count-read, pointer-read, frame-again}
 use Rattle.bitstream.proofs.ReadBack.{read-back, has-bits}

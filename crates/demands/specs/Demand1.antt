@@ -11,12 +11,12 @@ use Rattle.packets.specs.Packet.{limit-in-range, well-formed}
 use Rattle.packets.specs.Header.{bare, reading}
 use Rattle.packets.specs.Header as header
 use Rattle.packets.specs.Wrap.{wrapped-total, wrap-rows, wrapping, wraps, unwrap-rows, unwrapping, unwraps, unit-part}
-use Rattle.packets.specs.Space.{space-reading, space-reads, space-rows, space-writing, space-writes}
+use Rattle.space.specs.Space.{space-reading, space-reads, space-rows, space-writing, space-writes}
 use Rattle.packets.specs.declared.Header.{Header}
 use Rattle.packets.specs.declared.wrapping.Wrapped.{Wrapped}
 use Rattle.packets.specs.declared.wrapping.Unwrapped.{Unwrapped}
-use Rattle.packets.specs.declared.space.SpaceHeader.{SpaceHeader}
-use Rattle.packets.specs.declared.space.SpaceRead.{SpaceRead}
+use Rattle.space.specs.declared.SpaceHeader.{SpaceHeader}
+use Rattle.space.specs.declared.SpaceRead.{SpaceRead}
 use Rattle.frames.specs.Frame.{frame-rows, heading, head, head-rows}
 use Rattle.frames.specs.BitFrame.{bit-frame-rows, bit-heading, bit-head, bit-head-rows}
 use Rattle.frames.specs.declared.Settings.{Settings}

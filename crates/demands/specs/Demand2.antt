@@ -8,8 +8,8 @@ use Rattle.octets.specs.Basics.{field, placed, first}
 use Rattle.octets.proofs.Numbers.{Octets}
 use Rattle.packets.specs.Wrap.{wrapped-total, wrap-rows}
 use Rattle.packets.specs.Wrap as packets
-use Rattle.packets.specs.Space.{space-rows, space-reading, space-writing}
-use Rattle.packets.specs.declared.space.SpaceHeader.{SpaceHeader}
+use Rattle.space.specs.Space.{space-rows, space-reading, space-writing}
+use Rattle.space.specs.declared.SpaceHeader.{SpaceHeader}
 use Rattle.frames.specs.Link.{zone-at, count-width, headers}
 use Rattle.frames.specs.Frame.{in-range, frame-rows, zone-of, count, replay, pointer, pointer-word, head}
 use Rattle.frames.specs.declared.Settings.{Settings}

@@ -10,10 +10,8 @@ use Rattle.packets.specs.declared.Kind.{Kind}
 use Rattle.packets.specs.declared.Header.{Header}
 use Rattle.packets.specs.declared.wrapping.Wrapped.{Wrapped}
 use Rattle.packets.specs.declared.wrapping.Unwrapped.{Unwrapped}
-use Rattle.packets.specs.declared.space.SpaceRead.{SpaceRead}
 use Rattle.packets.specs.Header.{Reading, answer, version-of}
 use Rattle.packets.specs.Wrap.{Wrapping, wraps, Unwrapping, unwraps}
-use Rattle.packets.specs.Space.{SpaceReading, space-reads}
 
 header-back : Reading → Header
 header-back r =
@@ -64,14 +62,3 @@ unwrapped-undo (Unwrapped.Unit protocol extension start size) = refl
 
 pub unwrapped-determined : {a b : Unwrapped} {x : Unwrapping} → unwraps a ≡ x → unwraps b ≡ x → a ≡ b
 unwrapped-determined = told-apart unwraps unwrapped-back unwrapped-undo
-
-space-back : SpaceReading → SpaceRead
-space-back r = pick (r .accepted) (SpaceRead.Read (r .header)) (SpaceRead.Refused (r .refusal))
-
-space-undo : (r : SpaceRead) → space-back (space-reads r) ≡ r
-unfolding space-back space-reads
-space-undo (SpaceRead.Refused n) = refl
-space-undo (SpaceRead.Read header) = refl
-
-pub space-determined : {a b : SpaceRead} {x : SpaceReading} → space-reads a ≡ x → space-reads b ≡ x → a ≡ b
-space-determined = told-apart space-reads space-back space-undo

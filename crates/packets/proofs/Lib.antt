@@ -6,7 +6,6 @@ pub mod Fronts
 pub mod Idles
 pub mod Wraps
 pub mod Rounds
-pub mod Spaces
 pub mod Determined
 pub mod Begun
 pub mod Passes

@@ -3,5 +3,4 @@ pub mod Header
 pub mod Front
 pub mod Idle
 pub mod Wrap
-pub mod Space
 pub mod Passes

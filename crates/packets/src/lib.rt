@@ -8,14 +8,9 @@ ghost use Rattle.packets.specs.Header.{seen, told, reading, answer};
 use octets::Place;
 
 mod front;
-mod space;
 mod wrapping;
 
 pub use front::write_idle;
-pub use space::SpaceHeader;
-pub use space::SpaceRead;
-pub use space::read_space;
-pub use space::write_space;
 pub use wrapping::Unwrapped;
 pub use wrapping::Wrapped;
 pub use wrapping::unit_part;

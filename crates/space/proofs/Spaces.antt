@@ -15,8 +15,8 @@ use Rattle.octets.proofs.Choices.{and-true, none-holds}
 use Rattle.octets.proofs.Fields.{field-within, placed-within, placed-read, placed-above, agree-on}
 use Rattle.octets.proofs.Numbers.{Octets, octets-take, run-lt, number-within, number-octets, octets-number}
 use Rattle.octets.proofs.Written.{length-octets, length-over, over-take}
-use Rattle.packets.specs.declared.space.SpaceHeader.{SpaceHeader}
-use Rattle.packets.specs.Space.{version-at, type-at, secondary-at, apid-at, flags-at, count-at, length-at, space-fields, space-word, space-in-range, space-reading, space-rows, space-writing}
+use Rattle.space.specs.declared.SpaceHeader.{SpaceHeader}
+use Rattle.space.specs.Space.{version-at, type-at, secondary-at, apid-at, flags-at, count-at, length-at, space-fields, space-word, space-in-range, space-reading, space-rows, space-writing}
 
 -- ---- the law of fields, at a place in 48 bits
 

@@ -1,11 +1,11 @@
--- `packets::space::wide` meets its contract: the field is within its width.
+-- `space::wide` meets its contract: the field is within its width.
 -- Assumes nothing.
 use mathlib.Core.Path.{sym, subst}
 use Prim.Native.Nat.{ℕ, _^_, _<_}
 use Rattle.octets.proofs.Fields.{field-within}
 use borrow.Author.Needs.{needs}
-use Rattle.packets.proofs.space.wide.Statement.{statement}
-use Rattle.packets.proofs.space.wide.Tie as tie
+use Rattle.space.proofs.wide.Statement.{statement}
+use Rattle.space.proofs.wide.Tie as tie
 
 cast-result : tie.Need-cast-result
 cast-result c =

@@ -1,4 +1,4 @@
--- `packets::space::write_space` meets its contract: a refusal, or six octets.
+-- `space::write_space` meets its contract: a refusal, or six octets.
 -- Assumes nothing.
 use mathlib.Core.Path.{_≡_, refl, sym, ap, _∙_}
 use mathlib.Core.List.{List}
@@ -8,11 +8,11 @@ use lib.ListN.{length}
 use borrow.Author.Tests.{ne-eqb}
 use Rattle.octets.specs.Basics.{first, octets}
 use Rattle.octets.proofs.Written.{length-octets, laid-within}
-use Rattle.packets.specs.Space.{space-word, space-rows, space-writing, space-writes}
-use Rattle.packets.proofs.Spaces.{space-admitted}
+use Rattle.space.specs.Space.{space-word, space-rows, space-writing, space-writes}
+use Rattle.space.proofs.Spaces.{space-admitted}
 use borrow.Author.Needs.{needs}
-use Rattle.packets.proofs.space.write_space.Statement.{statement}
-use Rattle.packets.proofs.space.write_space.Tie as tie
+use Rattle.space.proofs.write_space.Statement.{statement}
+use Rattle.space.proofs.write_space.Tie as tie
 
 -- the table of refusals, row by row
 refusal : (c : tie.After-refused2) → c .refused2 .result ≡ first (space-rows (c .before .before .before .before .args .h) (length (c .before .before .before .before .args .out .now)))

@@ -1,4 +1,4 @@
--- `packets::space::in_range` meets its contract: the same tests, but for the length, whose type bounds it.
+-- `space::in_range` meets its contract: the same tests, but for the length, whose type bounds it.
 -- Assumes nothing.
 use mathlib.Core.Path.{_≡_, refl}
 use mathlib.Core.Bool.{Bool, true, false}
@@ -6,9 +6,9 @@ use native.Mathlib.Omega.{arith}
 use lib.Dec.{leb}
 use borrow.Author.Tests.{le-leb}
 use Rattle.octets.specs.Basics.{and}
-use Rattle.packets.specs.Space.{space-in-range}
-use Rattle.packets.proofs.space.in_range.Statement.{statement}
-use Rattle.packets.proofs.space.in_range.Tie as tie
+use Rattle.space.specs.Space.{space-in-range}
+use Rattle.space.proofs.in_range.Statement.{statement}
+use Rattle.space.proofs.in_range.Tie as tie
 
 last : (t : Bool) → and t true ≡ t
 last true = refl

@@ -6,8 +6,8 @@ use lib.ListN.{length}
 use lib.Dec.{leb, ltb, eqb}
 use Rattle.octets.specs.Basics.{pick, and, number-at, octets, over, read, write, Row, row, first}
 use Rattle.octets.specs.declared.Place.{Place}
-use Rattle.packets.specs.declared.space.SpaceHeader.{SpaceHeader}
-use Rattle.packets.specs.declared.space.SpaceRead.{SpaceRead}
+use Rattle.space.specs.declared.SpaceHeader.{SpaceHeader}
+use Rattle.space.specs.declared.SpaceRead.{SpaceRead}
 
 -- the fields' places in the header's 48 bits
 abbrev pub version-at : Place

@@ -2,7 +2,7 @@
 ghost use mathlib.Core.Path.{_≡_};
 ghost use Prim.Native.Nat.{_≤_};
 ghost use Rattle.octets.specs.Basics.{read};
-ghost use Rattle.packets.specs.Space.{space-word, space-in-range, space-reading, space-reads, space-writes, space-writing};
+ghost use Rattle.space.specs.Space.{space-word, space-in-range, space-reading, space-reads, space-writes, space-writing};
 use octets::Place;
 
 // The seven fields.

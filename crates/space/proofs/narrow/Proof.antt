@@ -1,11 +1,11 @@
--- `packets::space::narrow` meets its contract: the field is within its width.
+-- `space::narrow` meets its contract: the field is within its width.
 -- Assumes nothing.
 use mathlib.Core.Path.{sym, subst}
 use Prim.Native.Nat.{ℕ, _^_, _<_}
 use Rattle.octets.proofs.Fields.{field-within}
 use borrow.Author.Needs.{needs}
-use Rattle.packets.proofs.space.narrow.Statement.{statement}
-use Rattle.packets.proofs.space.narrow.Tie as tie
+use Rattle.space.proofs.narrow.Statement.{statement}
+use Rattle.space.proofs.narrow.Tie as tie
 
 cast-result : tie.Need-cast-result
 cast-result c =

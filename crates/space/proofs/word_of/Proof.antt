@@ -1,12 +1,12 @@
--- `packets::space::word_of` meets its contract: seven fields, placed one after the other.
+-- `space::word_of` meets its contract: seven fields, placed one after the other.
 -- Assumes nothing.
 use mathlib.Core.Path.{ap, _∙_}
 use native.Mathlib.Omega.{arith}
 use Rattle.octets.specs.Basics.{write}
-use Rattle.packets.specs.Space.{type-at, secondary-at, apid-at, flags-at, count-at, length-at, space-word}
+use Rattle.space.specs.Space.{type-at, secondary-at, apid-at, flags-at, count-at, length-at, space-word}
 use borrow.Author.Needs.{needs}
-use Rattle.packets.proofs.space.word_of.Statement.{statement}
-use Rattle.packets.proofs.space.word_of.Tie as tie
+use Rattle.space.proofs.word_of.Statement.{statement}
+use Rattle.space.proofs.word_of.Tie as tie
 
 returns : tie.Need-returns
 unfolding space-word

@@ -1,4 +1,4 @@
--- `packets::space::read_space` meets its contract: too few octets, or each field by itself.
+-- `space::read_space` meets its contract: too few octets, or each field by itself.
 -- Assumes nothing.
 use mathlib.Core.Path.{_≡_, refl}
 use mathlib.Core.List.{List}
@@ -6,11 +6,11 @@ use Prim.Native.Nat.{ℕ, _≤_}
 use lib.ListN.{length}
 use borrow.Author.Tests.{lt-ltb, le-ltb}
 use Rattle.octets.specs.Basics.{number-at, read}
-use Rattle.packets.specs.declared.space.SpaceRead.{SpaceRead}
-use Rattle.packets.specs.Space.{version-at, type-at, secondary-at, apid-at, flags-at, count-at, length-at, space-fields, space-reading, space-reads}
+use Rattle.space.specs.declared.SpaceRead.{SpaceRead}
+use Rattle.space.specs.Space.{version-at, type-at, secondary-at, apid-at, flags-at, count-at, length-at, space-fields, space-reading, space-reads}
 use borrow.Author.Needs.{needs}
-use Rattle.packets.proofs.space.read_space.Statement.{statement}
-use Rattle.packets.proofs.space.read_space.Tie as tie
+use Rattle.space.proofs.read_space.Statement.{statement}
+use Rattle.space.proofs.read_space.Tie as tie
 
 returns : tie.Need-returns
 unfolding space-reading space-reads
