@@ -1,5 +1,5 @@
 // The forms of a line. In a form `%` stands for a number of at most seven digits, `$` for octets up to the line's end, `*` for
-// any text up to it, and every other sign for itself.
+// any text up to it, 4,096 octets at most of either, and every other sign for itself.
 use crate::hex;
 use crate::text;
 
@@ -135,7 +135,12 @@ fn take(sign: u8, line: &[u8], n: Numbers) -> Numbers {
             }
             n
         }
-        b'*' => more(n, at, line.len()),
+        b'*' => {
+            if octets::less(line.len(), at) > 4096 {
+                return n;
+            }
+            more(n, at, line.len())
+        }
         _ => {
             if at < line.len() {
                 if line[at] == sign {
