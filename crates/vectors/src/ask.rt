@@ -83,7 +83,7 @@ fn lent(limit: usize, p: &[u8]) {
 }
 
 // The line of the answer to a line that asks.
-pub fn answer(q: Question, n: Numbers, line: &[u8], e: Ends, p: &[u8]) -> Ends {
+pub(crate) fn answer(q: Question, n: Numbers, line: &[u8], e: Ends, p: &[u8]) -> Ends {
     let limit = e.settings.limit;
     say::label(e.label);
     say::line(line);

@@ -28,7 +28,7 @@ fn wrote(e: Ends, n: usize, refusal: u8, frame: &[u8]) {
 }
 
 // Writes the first n of the bits that are lent into a frame.
-pub fn write(e: Ends, n: usize, lent: &[u8]) -> Ends {
+pub(crate) fn write(e: Ends, n: usize, lent: &[u8]) -> Ends {
     let mut frame = [0u8; 2055];
     let answer = bitstream::write(for_bits(e.settings), e.writer, lent, n, &mut frame);
     wrote(e, n, answer.refusal, &frame);
@@ -55,7 +55,7 @@ fn heard(label: Given, answer: Reading) {
 }
 
 // The line of a frame that is read, up to the octets that hold the bits.
-pub fn read(e: Ends, frame: &[u8]) -> Ends {
+pub(crate) fn read(e: Ends, frame: &[u8]) -> Ends {
     let s = for_bits(e.settings);
     let bits = e.bits;
     let before = bits.reader;

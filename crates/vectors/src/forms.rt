@@ -4,14 +4,14 @@ use crate::hex;
 use crate::text;
 
 // What is asked of the multiplexer.
-pub enum Call {
+pub(crate) enum Call {
     Put,
     Flush,
     IdleZone,
 }
 
 // What is asked of packets alone.
-pub enum Question {
+pub(crate) enum Question {
     // So many octets DD, wrapped.
     Wrap,
     // No octet, wrapped into an output of one octet.
@@ -23,7 +23,7 @@ pub enum Question {
     Lent,
 }
 
-pub enum Verb {
+pub(crate) enum Verb {
     // Nothing: an empty line, or one that begins with `#`.
     Note,
     // What each line that is printed begins with, from here on.
@@ -47,22 +47,22 @@ pub enum Verb {
 
 // A line as far as it is read by a form: whether that is all of both, where it is read to, and what stands in it for the last four
 // signs: a number by its value, octets and a text by where they begin.
-pub struct Numbers {
-    pub fit: bool,
-    pub end: usize,
-    pub first: usize,
-    pub second: usize,
-    pub third: usize,
-    pub last: usize,
+pub(crate) struct Numbers {
+    pub(crate) fit: bool,
+    pub(crate) end: usize,
+    pub(crate) first: usize,
+    pub(crate) second: usize,
+    pub(crate) third: usize,
+    pub(crate) last: usize,
 }
 
 // A line by its verb and its numbers.
-pub struct Asked {
-    pub verb: Verb,
-    pub numbers: Numbers,
+pub(crate) struct Asked {
+    pub(crate) verb: Verb,
+    pub(crate) numbers: Numbers,
 }
 
-pub const NONE: Numbers = Numbers {
+pub(crate) const NONE: Numbers = Numbers {
     fit: false,
     end: 0,
     first: 0,
@@ -193,7 +193,7 @@ fn find(forms: &[u8], line: &[u8]) -> Asked {
 }
 
 // What a line asks.
-pub fn read(line: &[u8]) -> Asked {
+pub(crate) fn read(line: &[u8]) -> Asked {
     let forms = b"
 #
 #*

@@ -3,18 +3,18 @@ ghost use Prim.Native.Nat.{_<_};
 ghost use lib.ListN.{length};
 
 // Octets of a line, at the front of `octets`.
-pub struct Given {
-    pub size: usize,
-    pub octets: [u8; 4096],
+pub(crate) struct Given {
+    pub(crate) size: usize,
+    pub(crate) octets: [u8; 4096],
 }
 
-pub const NONE: Given = Given {
+pub(crate) const NONE: Given = Given {
     size: 0,
     octets: [0; 4096],
 };
 
 // The value of a digit; 16 for any other sign.
-pub fn value(sign: u8) -> u8 {
+pub(crate) fn value(sign: u8) -> u8 {
     match sign {
         b'0'..=b'9' => sign - b'0',
         b'A'..=b'F' => sign - b'A' + 10,
@@ -36,7 +36,7 @@ fn octet(line: &[u8], at: usize) -> usize
 }
 
 // The octets from `from` to the line's end; none where they are not written so, or are more than 4,096.
-pub fn read(line: &[u8], from: usize) -> Given {
+pub(crate) fn read(line: &[u8], from: usize) -> Given {
     let mut octets = [0u8; 4096];
     let mut at = from;
     let mut size = 0;

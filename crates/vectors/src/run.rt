@@ -16,26 +16,26 @@ use multiplexer::Mux;
 use multiplexer::Reply;
 
 // The end that packets come out of: the extractor, and the store of what it holds.
-pub struct Receiver {
-    pub extractor: Extractor,
-    pub store: [u8; 4096],
+pub(crate) struct Receiver {
+    pub(crate) extractor: Extractor,
+    pub(crate) store: [u8; 4096],
 }
 
 // The end that bits come out of.
-pub struct BitReceiver {
-    pub reader: Reader,
+pub(crate) struct BitReceiver {
+    pub(crate) reader: Reader,
 }
 
 // Both ends of a channel, and what the lines on it begin with. Packets go in at the multiplexer, which fills the frame, and bits at
 // the writer.
-pub struct Ends {
-    pub label: Given,
-    pub settings: Settings,
-    pub mux: Mux,
-    pub frame: [u8; 2054],
-    pub receiver: Receiver,
-    pub writer: Writer,
-    pub bits: BitReceiver,
+pub(crate) struct Ends {
+    pub(crate) label: Given,
+    pub(crate) settings: Settings,
+    pub(crate) mux: Mux,
+    pub(crate) frame: [u8; 2054],
+    pub(crate) receiver: Receiver,
+    pub(crate) writer: Writer,
+    pub(crate) bits: BitReceiver,
 }
 
 // What the multiplexer answered, and the channel with the frame after it.
@@ -45,7 +45,7 @@ struct Called {
 }
 
 // A channel at its beginning, with 55 for its fill: its number, the spacecraft, the zone and the limit.
-pub fn begin(label: Given, n: Numbers) -> Ends {
+pub(crate) fn begin(label: Given, n: Numbers) -> Ends {
     Ends {
         label,
         settings: Settings {
@@ -71,7 +71,7 @@ pub fn begin(label: Given, n: Numbers) -> Ends {
 }
 
 // The line from `from` on for a label.
-pub fn label(e: Ends, line: &[u8], from: usize) -> Ends {
+pub(crate) fn label(e: Ends, line: &[u8], from: usize) -> Ends {
     let mut octets = [0u8; 4096];
     octets::lay(&mut octets, 0, line, from, line.len());
     let label = Given {
@@ -84,7 +84,7 @@ pub fn label(e: Ends, line: &[u8], from: usize) -> Ends {
 }
 
 // The octets of a frame; 0 where the zone is out of range.
-pub fn frame_length(s: Settings) -> usize {
+pub(crate) fn frame_length(s: Settings) -> usize {
     let zone = s.zone;
     if zone > 2047 { 0 } else { zone + 8 }
 }
@@ -165,7 +165,7 @@ fn listen(s: Settings, r: Receiver, frame: &[u8]) -> Receiver {
 }
 
 // The line of a frame that is read.
-pub fn hear(e: Ends, frame: &[u8]) -> Ends {
+pub(crate) fn hear(e: Ends, frame: &[u8]) -> Ends {
     say::label(e.label);
     say::phrase(say::READS);
     let receiver = listen(e.settings, e.receiver, frame);
@@ -240,7 +240,7 @@ fn call(c: Call, e: Ends, p: &[u8]) -> Called {
 
 // Calls the multiplexer until the packet is taken, to which each call that is not refused adds an octet at least; once where there
 // is no packet.
-pub fn transmit(c: Call, e: Ends, p: &[u8]) -> Ends {
+pub(crate) fn transmit(c: Call, e: Ends, p: &[u8]) -> Ends {
     let mut now = e;
     let mut left = p.len() + 1;
     while left > 0 {
@@ -282,7 +282,7 @@ fn put_once(e: Ends, p: &[u8]) {
 }
 
 // One call with a packet of n octets, of which the first are given and the others 0. The channel stays as it was.
-pub fn put_long(e: Ends, n: usize, first: &[u8]) -> Ends {
+pub(crate) fn put_long(e: Ends, n: usize, first: &[u8]) -> Ends {
     let mut octets = text::longest(0);
     octets::lay(&mut octets, 0, first, 0, first.len());
     put_once(e, text::part(&octets, 0, n));

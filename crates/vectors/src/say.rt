@@ -10,7 +10,7 @@ const REFUSED: usize = 0;
 
 const MORE: usize = 1;
 
-pub const DAMAGED: usize = 2;
+pub(crate) const DAMAGED: usize = 2;
 
 const IDLE: usize = 3;
 
@@ -18,56 +18,56 @@ const SPACE: usize = 4;
 
 const ENCAPSULATION: usize = 5;
 
-pub const FRAME: usize = 6;
+pub(crate) const FRAME: usize = 6;
 
-pub const NEXT: usize = 7;
+pub(crate) const NEXT: usize = 7;
 
 const OCTETS: usize = 8;
 
-pub const READS: usize = 9;
+pub(crate) const READS: usize = 9;
 
-pub const WRITES: usize = 10;
+pub(crate) const WRITES: usize = 10;
 
-pub const DONE: usize = 11;
+pub(crate) const DONE: usize = 11;
 
-pub const PUT: usize = 12;
+pub(crate) const PUT: usize = 12;
 
-pub const HEADER: usize = 13;
+pub(crate) const HEADER: usize = 13;
 
-pub const WRITES_BITS: usize = 14;
+pub(crate) const WRITES_BITS: usize = 14;
 
-pub const READS_BITS: usize = 15;
+pub(crate) const READS_BITS: usize = 15;
 
-pub const WRAPPED: usize = 16;
+pub(crate) const WRAPPED: usize = 16;
 
-pub const TOTAL: usize = 17;
+pub(crate) const TOTAL: usize = 17;
 
-pub const ANSWER: usize = 18;
+pub(crate) const ANSWER: usize = 18;
 
-pub const UNIT: usize = 19;
+pub(crate) const UNIT: usize = 19;
 
-pub const WELL_FORMED: usize = 20;
+pub(crate) const WELL_FORMED: usize = 20;
 
-pub const NOT_WELL_FORMED: usize = 21;
+pub(crate) const NOT_WELL_FORMED: usize = 21;
 
-pub const UNKNOWN: usize = 22;
+pub(crate) const UNKNOWN: usize = 22;
 
-pub fn text(t: &[u8]) {
+pub(crate) fn text(t: &[u8]) {
     io::write_all(STDOUT_FILENO, t);
 }
 
-pub fn end() {
+pub(crate) fn end() {
     text(b"\n");
 }
 
 // What a line begins with.
-pub fn label(l: Given) {
+pub(crate) fn label(l: Given) {
     let octets = l.octets;
     text(text::part(&octets, 0, l.size));
 }
 
 // A line of the input, after a space.
-pub fn line(line: &[u8]) {
+pub(crate) fn line(line: &[u8]) {
     text(b" ");
     text(line);
 }
@@ -94,7 +94,7 @@ fn form(form: &[u8], a: u64, b: u64, c: u64, d: u64) {
 }
 
 // A phrase with numbers, as many as it has.
-pub fn numbers(phrase: usize, a: u64, b: u64, c: u64, d: u64) {
+pub(crate) fn numbers(phrase: usize, a: u64, b: u64, c: u64, d: u64) {
     let phrases = b" refused %
  more
  damaged
@@ -122,15 +122,15 @@ line % is in none of the forms:
     form(text::line(phrases, phrase), a, b, c, d);
 }
 
-pub fn number(phrase: usize, n: u64) {
+pub(crate) fn number(phrase: usize, n: u64) {
     numbers(phrase, n, 0, 0, 0);
 }
 
-pub fn phrase(phrase: usize) {
+pub(crate) fn phrase(phrase: usize) {
     numbers(phrase, 0, 0, 0, 0);
 }
 
-pub fn refused(refusal: u8) {
+pub(crate) fn refused(refusal: u8) {
     number(REFUSED, refusal as u64);
 }
 
@@ -144,7 +144,7 @@ fn octet(o: u8) {
 }
 
 // Octets, each after a space.
-pub fn octets(s: &[u8]) {
+pub(crate) fn octets(s: &[u8]) {
     let mut i = 0;
     while i < s.len() {
         octet(s[i]);
@@ -153,7 +153,7 @@ pub fn octets(s: &[u8]) {
 }
 
 // What octets something has, unless it has none.
-pub fn shown(s: &[u8]) {
+pub(crate) fn shown(s: &[u8]) {
     if s.len() > 0 {
         phrase(OCTETS);
     }
@@ -172,7 +172,7 @@ fn kind(kind: Kind, key: u16, idle: bool, total: usize) {
 }
 
 // What the header reader says; whether the packet is idle.
-pub fn header(h: Header) -> bool {
+pub(crate) fn header(h: Header) -> bool {
     match h {
         Header::Refused { refusal } => {
             refused(refusal);

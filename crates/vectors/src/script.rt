@@ -43,7 +43,7 @@ fn act(asked: Asked, line: &[u8], e: Ends) -> Ends {
 }
 
 // Every line, up to one that is not understood.
-pub fn follow(text: &[u8]) {
+pub(crate) fn follow(text: &[u8]) {
     let mut e = run::begin(hex::NONE, forms::NONE);
     let mut number: u64 = 1;
     let mut at = 0;

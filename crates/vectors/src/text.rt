@@ -4,14 +4,14 @@ ghost use Prim.Native.Nat.{_≤_};
 ghost use lib.ListN.{length};
 
 // As many octets as the longest packet has, all the same.
-pub fn longest(octet: u8) -> [u8; 65542]
+pub(crate) fn longest(octet: u8) -> [u8; 65542]
     ensures { λ r. ⌜ 65542 ≡ length r ⌝ }
 {
     [octet; 65542]
 }
 
 // Where the line ends that `at` lies in.
-pub fn line_end(text: &[u8], at: usize) -> usize
+pub(crate) fn line_end(text: &[u8], at: usize) -> usize
     requires { ⌜ at ≤ length (now text) ⌝ }
     ensures { λ r. ⌜ (at ≤ r) × (r ≤ length (now (text .entry))) ⌝ }
 {
@@ -26,7 +26,7 @@ pub fn line_end(text: &[u8], at: usize) -> usize
 }
 
 // The `k`th line of a text, from 0; nothing where it has fewer.
-pub fn line(text: &[u8], k: usize) -> &[u8] {
+pub(crate) fn line(text: &[u8], k: usize) -> &[u8] {
     let mut at = 0;
     let mut left = k;
     while left > 0 {
@@ -42,7 +42,7 @@ pub fn line(text: &[u8], k: usize) -> &[u8] {
 }
 
 // The `size` octets from `start`; none where they run past the end.
-pub fn part<'a>(s: &'a [u8], start: usize, size: usize) -> &'a [u8] {
+pub(crate) fn part<'a>(s: &'a [u8], start: usize, size: usize) -> &'a [u8] {
     if s.len() < start {
         return &s[..0];
     }
