@@ -1,3 +1,5 @@
+-- `forms::find` meets its contract: its loop stays inside what it reads and writes, and ends.
+-- Assumes nothing.
 use Prim.Native.Nat.{_-_, _≤_}
 use lib.ListN.{length}
 use borrow.Author.Needs.{needs}

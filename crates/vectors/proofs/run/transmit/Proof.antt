@@ -1,3 +1,5 @@
+-- `run::transmit` meets its contract: its loop stays inside what it reads and writes, and ends.
+-- Assumes nothing.
 use borrow.Author.Needs.{needs}
 use Rattle.vectors.proofs.run.transmit.Statement.{statement}
 use Rattle.vectors.proofs.run.transmit.Tie as tie

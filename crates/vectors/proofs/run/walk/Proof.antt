@@ -1,3 +1,5 @@
+-- `run::walk` meets its contract: its loop stays inside what it reads and writes, and ends.
+-- Assumes nothing.
 use mathlib.Core.Path.{_≡_}
 use lib.ListN.{length}
 use borrow.Author.Needs.{needs}
