@@ -49,10 +49,6 @@ puts-then {d} {e} {f} {a} {b} {at} {mid} {end} p q =
       ends = omega (arith, p .ends, q .ends, length-append a b);
     }
 
--- where a text ends lies within the buffer
-pub puts-within : {d e a : List ℕ} {at end : ℕ} → Puts d at a e end → end ≤ length e
-puts-within {d} {e} {a} {at} p = omega (arith, p .ends, p .fits, ap length (p .written) ∙ length-over d at a (p .fits))
-
 -- ---- the digits of a number
 
 glyph-of-ten : (d : ℕ) → d < 10 → glyph d ≡ 48 + d

@@ -7,10 +7,8 @@ use Prim.Native.Nat.{ℕ}
 use lib.Dec.{eqb}
 use Rattle.octets.specs.Basics.{pick}
 use Rattle.octets.proofs.Tests.{told-apart}
-use Rattle.frames.specs.declared.Settings.{Settings}
-use Rattle.extractor.specs.Records.{Stepped, steps-to, step-call}
-use Rattle.extractor.specs.Answers.{EnterNumbers, EnterSaid, entered-numbers, enter-says, StepNumbers, StepSaid, found-numbers, said, stepped, step-says, step-answer}
-use Rattle.extractor.specs.declared.Extractor.{Extractor}
+use Rattle.extractor.specs.Records.{Stepped, steps-to}
+use Rattle.extractor.specs.Answers.{EnterNumbers, EnterSaid, entered-numbers, enter-says, StepNumbers, StepSaid, found-numbers, said, stepped, step-says}
 use Rattle.extractor.specs.declared.Entered.{Entered}
 use Rattle.extractor.specs.declared.Entering.{Entering}
 use Rattle.extractor.specs.declared.Found.{Found}
@@ -65,12 +63,6 @@ stepped-back a = steps-to (found-back (a .answer)) (a .next) (a .store)
 stepped-undo : (f : List ℕ) (w : Stepped) → stepped-back (said f w) ≡ w
 unfolding stepped-back
 stepped-undo f w = ap (λ (a : Found). steps-to a (w .next) (w .store)) (found-undo f (w .store) (w .found))
-
--- a step that meets its promise is the one that the rules give
-pub step-outcome : (s : Settings) (x : Extractor) (store f : List ℕ) (r : Move) (st : List ℕ)
-    → step-says r f st ≡ step-answer s x store f → stepped r st ≡ step-call s x store f
-unfolding step-answer
-step-outcome s x store f r st e = told-apart (said f) stepped-back (stepped-undo f) e refl
 
 -- the answer, the record and every octet of the store
 pub step-determined : (f : List ℕ) {a b : Move} {p q : List ℕ} {x : StepSaid} → step-says a f p ≡ x → step-says b f q ≡ x → (a ≡ b) × (p ≡ q)

@@ -46,10 +46,6 @@ module _ (limit : ℕ) (os : List ℕ) (r : Header) (ranged : limit-in-range lim
   pub says-look : says r ≡ look limit os
   says-look = sym (of-answer r) ∙ ap length-told looked ∙ of-told os (look limit os)
 
-  -- and the rest of it is what the octets tell
-  pub answer-told : answer r ≡ told os (says r)
-  answer-told = looked ∙ ap (told os) (sym says-look)
-
 -- ---- the test and the statement
 
 pub formed-test : (limit : ℕ) (p : List ℕ) → WellFormed limit p → well-formed limit p ≡ true
