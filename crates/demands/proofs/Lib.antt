@@ -14,3 +14,4 @@ pub mod Laid
 pub mod Passed
 pub mod Promised
 pub mod RoundTrips
+pub mod calls

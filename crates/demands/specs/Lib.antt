@@ -7,3 +7,4 @@ pub mod Demand3
 pub mod Promises
 pub mod RoundTrip
 pub mod Table
+pub mod calls

@@ -1,0 +1,61 @@
+-- The promises of `packets`.
+-- Assumes nothing.
+use Prim.Native.Nat.{ℕ}
+use mathlib.Core.Path.{_≡_, refl}
+use mathlib.Core.List.{List, [], _∷_}
+use mathlib.Core.Bool.{true, false, not}
+use lib.ListN.{length}
+use denote.Ref.{now}
+use Rattle.octets.specs.Basics.{over, row, first}
+use Rattle.octets.proofs.Tests.{test}
+use Rattle.packets.specs.Packet.{Look, more, damaged, whole, look, limit-in-range}
+use Rattle.packets.specs.Header.{bare}
+use Rattle.packets.specs.Header as header
+use Rattle.packets.specs.Wrap.{wrapped, wrapped-total, wrapping, wraps, unwrap-rows, unwrapping, unwraps, unit-part}
+use Rattle.packets.specs.declared.wrapping.Wrapped.{Wrapped}
+use Rattle.packets.proofs.Determined.{header-determined, wrapped-determined, unwrapped-determined}
+use Rattle.demands.specs.Promises.{Left}
+use Rattle.demands.specs.calls.Packets.{OfPackets}
+use Rattle.demands.proofs.Promised.{by-rows, promised, left-same, exactly}
+
+-- a limit out of range is the reader's only refusal
+reading-by-row : (limit : ℕ) (os : List ℕ)
+    → header.reading limit os ≡ by-rows (row 1 (not (limit-in-range limit)) ∷ []) (header.told os (look limit os)) (λ n. bare n 0)
+unfolding header.reading first
+reading-by-row limit os = test (limit-in-range limit) (λ t. rw t refl) (λ t. rw t refl)
+
+told-unrefused : (os : List ℕ) (k : Look) → header.told os k .refusal ≡ 0
+unfolding header.told
+told-unrefused os more = refl
+told-unrefused os damaged = refl
+told-unrefused os (whole l) = refl
+
+pub of-packets : OfPackets
+unfolding wrapping unwrapping unit-part
+of-packets = record {
+  wrap = λ κs limit protocol extension unit-lent out-lent.
+      let unit : List ℕ = now unit-lent in
+      let out : List ℕ = now out-lent in
+      promised (λ (o : Left Wrapped). wraps (o .answer) (o .lent)) (λ a. a .refusal) _
+      (record { accepted = true; refusal = 0; total = wrapped-total protocol (length unit); output = over out 0 (wrapped protocol extension unit) })
+      (λ n. record { accepted = false; refusal = n; total = 0; output = out }) refl refl (λ n. refl)
+      (record {
+        free = tt;
+        gives = λ o m. m;
+        one = λ o o′ p q.
+            let same = wrapped-determined {a = o .answer} {b = o′ .answer} {p = o .lent} {q = o′ .lent} p q in
+            left-same o o′ (same .0) (same .1);
+      });
+  unwrap = λ κs limit p.
+      promised unwraps (λ a. a .refusal) (unwrap-rows limit (now p)) _
+      (λ n. record { accepted = false; refusal = n; protocol = 0; extension = 0; start = 0; size = 0 }) refl refl (λ n. refl)
+      (record { free = tt; gives = λ o m. m; one = λ o o′ e d. unwrapped-determined e d });
+  unit-part = λ κs p u part. exactly;
+  no-unit = λ p n. refl;
+  read-header = λ κs limit os-lent.
+      let os : List ℕ = now os-lent in
+      promised header.answer (λ a. a .refusal) (row 1 (not (limit-in-range limit)) ∷ []) (header.told os (look limit os)) (λ n. bare n 0)
+      (reading-by-row limit os) (told-unrefused os (look limit os)) (λ n. refl)
+      (record { free = tt; gives = λ o m. m; one = λ o o′ p q. header-determined p q });
+  well-formed = λ κs limit p. exactly;
+}

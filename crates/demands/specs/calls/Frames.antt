@@ -1,0 +1,62 @@
+-- What the public functions of `frames` promise.
+use Prim.Native.Nat.{ℕ}
+use mathlib.Core.List.{List}
+use lib.Dec.{ltb, eqb}
+use contract.Lifetimes.{Lfts}
+use denote.Ref.{now, at-last}
+use Rattle.octets.specs.Basics.{pick, over, Row, first}
+use Rattle.frames.specs.Link.{missing}
+use Rattle.frames.specs.Frame.{in-range, frame-length, frame-rows, heading, head, head-rows}
+use Rattle.frames.specs.BitFrame.{bits-in-range, bit-frame-length, bit-frame-rows, bit-heading, bit-head, bit-head-rows}
+use Rattle.frames.specs.declared.Settings.{Settings}
+use Rattle.frames.specs.declared.bits.BitSettings.{BitSettings}
+use Rattle.frames.specs.declared.Heading.{Heading}
+use Rattle.frames.proofs.in_range.Reads as in-range-fn
+use Rattle.frames.proofs.has_length.Reads as has-length-fn
+use Rattle.frames.proofs.is_short.Reads as is-short-fn
+use Rattle.frames.proofs.read_head.Reads as read-head-fn
+use Rattle.frames.proofs.missing.Reads as missing-fn
+use Rattle.frames.proofs.write_head.Reads as write-head-fn
+use Rattle.frames.proofs.bits.in_range.Reads as bits-in-range-fn
+use Rattle.frames.proofs.bits.has_length.Reads as bits-has-length-fn
+use Rattle.frames.proofs.bits.is_short.Reads as bits-is-short-fn
+use Rattle.frames.proofs.bits.read_head.Reads as bits-read-head-fn
+use Rattle.frames.proofs.bits.write_head.Reads as bits-write-head-fn
+use Rattle.demands.specs.Promises.{Slice, Left, Contract, as-read, Is, Promised}
+
+-- a header that is read
+abbrev pub Reads : Contract Heading → List Row → Heading → Type 0
+Reads c rows given = Promised c given rows (λ h. h) (λ h. h .refusal) (λ n. record { refusal = n; count = 0; replay = 0; pointer = 0 })
+
+-- what is written over the front of octets where it is not refused
+abbrev pub Writes : Contract (Left ℕ) → List Row → List ℕ → List ℕ → Type 0
+Writes c rows new old =
+    Promised c (record { answer = first rows; lent = pick (eqb (first rows) 0) new old }) rows (λ o. o) (λ o. o .answer) (λ n. record { answer = n; lent = old })
+
+-- ranges, lengths, the wheel, and the headers of packet frames and of bitstream frames
+pub record OfFrames : Type 0 where
+  pub in-range : (s : Settings) → Is (as-read (in-range-fn.Pre tt (s, tt)) (λ r. in-range-fn.Post tt (s, tt) r (s, tt))) (in-range s)
+  pub has-length : (s : Settings) (len : ℕ)
+      → Is (as-read (has-length-fn.Pre tt (s, (len, tt))) (λ r. has-length-fn.Post tt (s, (len, tt)) r (s, (len, tt)))) (eqb len (frame-length s))
+  pub is-short : (s : Settings) (len : ℕ)
+      → Is (as-read (is-short-fn.Pre tt (s, (len, tt))) (λ r. is-short-fn.Post tt (s, (len, tt)) r (s, (len, tt)))) (ltb len (frame-length s))
+  pub missing : (c last : ℕ)
+      → Is (as-read (missing-fn.Pre tt (c, (last, tt))) (λ r. missing-fn.Post tt (c, (last, tt)) r (c, (last, tt)))) (missing 24 last c)
+  pub read-head : (κs : Lfts 1) (s : Settings) (f : Slice)
+      → Reads (as-read (read-head-fn.Pre κs (s, (f, tt))) (λ r. read-head-fn.Post κs (s, (f, tt)) r (s, (f, tt)))) (frame-rows s (now f)) (heading s (now f))
+  pub write-head : (κs : Lfts 1) (s : Settings) (c p : ℕ) (buf : Slice)
+      → Writes (as-read (write-head-fn.Pre κs (s, (c, (p, (buf, tt)))))
+      (λ o. write-head-fn.Post κs (s, (c, (p, (buf, tt)))) (o .answer) (s, (c, (p, (at-last buf (o .lent), tt))))))
+      (head-rows s c p (now buf)) (over (now buf) 0 (head s c p)) (now buf)
+  pub bits-in-range : (s : BitSettings)
+      → Is (as-read (bits-in-range-fn.Pre tt (s, tt)) (λ r. bits-in-range-fn.Post tt (s, tt) r (s, tt))) (bits-in-range s)
+  pub bits-has-length : (s : BitSettings) (len : ℕ)
+      → Is (as-read (bits-has-length-fn.Pre tt (s, (len, tt))) (λ r. bits-has-length-fn.Post tt (s, (len, tt)) r (s, (len, tt)))) (eqb len (bit-frame-length s))
+  pub bits-is-short : (s : BitSettings) (len : ℕ)
+      → Is (as-read (bits-is-short-fn.Pre tt (s, (len, tt))) (λ r. bits-is-short-fn.Post tt (s, (len, tt)) r (s, (len, tt)))) (ltb len (bit-frame-length s))
+  pub bits-read-head : (κs : Lfts 1) (s : BitSettings) (f : Slice)
+      → Reads (as-read (bits-read-head-fn.Pre κs (s, (f, tt))) (λ r. bits-read-head-fn.Post κs (s, (f, tt)) r (s, (f, tt)))) (bit-frame-rows s (now f)) (bit-heading s (now f))
+  pub bits-write-head : (κs : Lfts 1) (s : BitSettings) (c p : ℕ) (buf : Slice)
+      → Writes (as-read (bits-write-head-fn.Pre κs (s, (c, (p, (buf, tt)))))
+      (λ o. bits-write-head-fn.Post κs (s, (c, (p, (buf, tt)))) (o .answer) (s, (c, (p, (at-last buf (o .lent), tt))))))
+      (bit-head-rows s c p (now buf)) (over (now buf) 0 (bit-head s c p)) (now buf)
