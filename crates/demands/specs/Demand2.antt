@@ -19,7 +19,7 @@ use Rattle.bitstream.specs.Bitstream.{written, reader-reachable, reading}
 use Rattle.bitstream.specs.Statements.{ReadBack, HasBits}
 use Rattle.bitstream.specs.declared.Writer.{Writer}
 use Rattle.bitstream.specs.declared.Reader.{Reader}
-use Rattle.extractor.specs.Statements.{SaysTheRules}
+use Rattle.extractor.specs.Statements.{SaysTheRules, SpendsInTime}
 use Rattle.demands.specs.Demand2List.{OrdersCarried, ListCarried}
 use Rattle.demands.specs.RoundTrip.{OrdersHandedOver, ListHandedOver}
 
@@ -57,7 +57,7 @@ pub record Bits : Type 0 where
       → ReadBack s x (w .count) n bits (take (bit-frame-length s) (written s w bits n buffer .frame))
   pub read-has : (s : BitSettings) (x : Reader) (f : List ℕ) → Octets f → reading s x f .refusal ≡ 0 → HasBits s (reading s x f .bits) f
 
--- and with these the list, carried and handed over, and every event of the extractor
+-- and with these the list, carried and handed over, every event of the extractor, and how soon a frame is spent
 pub record Demand2 : Type 0 where
   pub fields : Fields
   pub headers-read : Headers
@@ -68,3 +68,4 @@ pub record Demand2 : Type 0 where
   pub list : ListCarried
   pub list-back : ListHandedOver
   pub events : SaysTheRules
+  pub in-time : SpendsInTime

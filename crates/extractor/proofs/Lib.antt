@@ -2,6 +2,7 @@ pub mod Arrivals
 pub mod Determined
 pub mod Entries
 pub mod GoingOn
+pub mod InTime
 pub mod Listens
 pub mod Parts
 pub mod Passed

@@ -69,7 +69,7 @@ kept-keeps s os store last wheel room begun fits = record {
   beyond = drop-front-over os store (s .limit) fits;
 }
 
-packed-goes-on : {a : Found} {mark : Bool} → Packed a mark → goes-on a ≡ true
+pub packed-goes-on : {a : Found} {mark : Bool} → Packed a mark → goes-on a ≡ true
 packed-goes-on framed = refl
 packed-goes-on stored = refl
 
@@ -102,7 +102,7 @@ unfolding step-rows first
 step-unrefused s x store f ok room reach entered right =
     rw (ok, le-ltb (length store) (s .limit) room, reach, entered, eq-eqb (length f) (frame-length s) right)
 
-call-is-step : (s : Settings) (x : Extractor) (store f : List ℕ) → in-range s ≡ true → s .limit ≤ length store
+pub call-is-step : (s : Settings) (x : Extractor) (store f : List ℕ) → in-range s ≡ true → s .limit ≤ length store
     → reachable s store x ≡ true → is-entered x ≡ true → length f ≡ frame-length s → step-call s x store f ≡ step s f store x
 unfolding step-call
 call-is-step s x store f ok room reach entered right = rw (step-unrefused s x store f ok room reach entered right) refl

@@ -23,9 +23,10 @@ use Rattle.extractor.specs.declared.Extractor.{Extractor}
 use Rattle.extractor.specs.declared.Extractor.the-variants.{Walking}
 use Rattle.extractor.proofs.Determined.{enter-determined, step-determined}
 use Rattle.extractor.proofs.GoingOn.{reached-by-test}
+use Rattle.extractor.proofs.InTime.{entered-in-time}
 use Rattle.extractor.proofs.Listens.{listen-hears, fresh-hears}
 use Rattle.extractor.proofs.Reaches.{enter-next, step-next, reached-exactly}
-use Rattle.extractor.proofs.Settles.{Keeps, enter-reachable, step-keeps, spent-in-time}
+use Rattle.extractor.proofs.Settles.{Keeps, enter-reachable, step-keeps}
 use Rattle.extractor.proofs.Unrefused.{arrives, moves}
 
 pub says-the-rules : SaysTheRules
@@ -35,10 +36,10 @@ pub says-them-on : SaysThemOn
 says-them-on s x store fs (ok, room) reach between = listen-hears s x store fs ok room reach between .says
 
 pub spends-in-time : SpendsInTime
-spends-in-time s x store f g e right =
+spends-in-time s x store f gs e right many =
     let a = arrives s x store f e in
     let r = enter-reachable s f store x (a .ranged) (a .accepts) (a .reached) (a .between) in
-    rw (enter-next s x store f e) (spent-in-time s g store _ (a .ranged) right (a .room) (r .0) (r .1))
+    rw (enter-next s x store f e) (entered-in-time s (a .ranged) gs _ store right (a .room) (r .0) (r .1) many)
 
 -- what a step leaves of the store: as it was where it is refused
 store-kept : {A : Type 0} (s : Settings) (x : Extractor) (store f : List ℕ) (of : List ℕ → A)

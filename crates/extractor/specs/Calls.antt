@@ -56,6 +56,13 @@ steps s f (suc n) x store =
     let w : Stepped = step-call s x store f in
     one-more f w (pick (goes-on (w .found)) (steps s f n (w .next) (w .store)) (none-left (w .next) (w .store)))
 
+-- what step after step answers, each with a frame of its own, until one does not go on
+unfoldable pub answers-to : Settings → Extractor → List ℕ → List (List ℕ) → List Found
+answers-to s x store [] = []
+answers-to s x store (g ∷ gs) =
+    let w : Stepped = step-call s x store g in
+    w .found ∷ pick (goes-on (w .found)) (answers-to s (w .next) (w .store) gs) []
+
 -- the last answer, and no earlier one, is that the frame is spent; and none is a refusal
 abbrev pub SpentLast : List Found → Type 0
 SpentLast found = (before : List Found) × (found ≡ before ++ (Spent ∷ [])) × All (λ a. goes-on a ≡ true) before

@@ -5,13 +5,13 @@ use mathlib.Core.List.{List, [], _∷_}
 use mathlib.Core.Bool.{true, false}
 use Prim.Native.Nat.{suc, ℕ, _≤_}
 use lib.ListN.{length, drop}
-use Rattle.octets.specs.Basics.{and, AllOctets, first}
+use Rattle.octets.specs.Basics.{and, All, AllOctets, first}
 use Rattle.frames.specs.Frame.{in-range, frame-length}
 use Rattle.frames.specs.declared.Settings.{Settings}
 use Rattle.extractor.specs.Extract.{fresh, told}
 use Rattle.extractor.specs.Records.{reachable, is-entered, stands-for, enter-rows, step-rows, step-call}
 use Rattle.extractor.specs.Answers.{EnterSaid, enter-answer, enter-says, StepSaid, step-says}
-use Rattle.extractor.specs.Calls.{steps, SpentLast, listen}
+use Rattle.extractor.specs.Calls.{answers-to, SpentLast, listen}
 use Rattle.extractor.specs.Reach.{Reached, Continues, held-goes-on}
 use Rattle.extractor.specs.declared.Extractor.{Extractor}
 use Rattle.extractor.specs.declared.Extractor.the-variants.{Fresh, Walking}
@@ -41,10 +41,11 @@ abbrev pub SaysThemOn : Type 0
 SaysThemOn = (s : Settings) (x : Extractor) (store : List ℕ) (fs : List (List ℕ)) → Fit s store
     → reachable s store x ≡ true → is-entered x ≡ false → listen s x store fs .told ≡ told s (stands-for store x) fs
 
--- A frame that is entered is spent within Z + 1 steps, and none of them is refused, with any frame of the right length.
+-- A frame that is entered is spent within Z + 1 steps, and none of them is refused, whatever frames of the right length they are lent.
 abbrev pub SpendsInTime : Type 0
-SpendsInTime = (s : Settings) (x : Extractor) (store f g : List ℕ) → first (enter-rows s x store f) ≡ 0 → length g ≡ frame-length s
-    → SpentLast (steps s g (suc (s .zone)) (enter-answer s x store f .next) store .found)
+SpendsInTime = (s : Settings) (x : Extractor) (store f : List ℕ) (gs : List (List ℕ)) → first (enter-rows s x store f) ≡ 0
+    → All (λ (g : List ℕ). length g ≡ frame-length s) gs → length gs ≡ suc (s .zone)
+    → SpentLast (answers-to s (enter-answer s x store f .next) store gs)
 
 -- Every record that a call hands back, but for a refusal, passes the test for refusal 10 over the store that it leaves, whatever
 -- frame was stepped; and the store has its length and its octets from the limit on.
