@@ -14,4 +14,5 @@ pub mod Laid
 pub mod Passed
 pub mod Promised
 pub mod RoundTrips
+pub mod Weaker
 pub mod calls

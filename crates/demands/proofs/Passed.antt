@@ -14,6 +14,7 @@ use Rattle.extractor.proofs.Passed.{sample-passes}
 use Rattle.judge.specs.Judge.{is-fault, faulty-entry, faulty, close, judged, verdict}
 use Rattle.bitstream.proofs.Passes as bitstream
 use Rattle.demands.specs.Table.{Pass1, Table}
+use Rattle.demands.proofs.Weaker.{weaker}
 
 pass-1 : Pass1
 unfolding number-from number octets field part limit-in-range look space encapsulation counted sized header-length is-idle key-of size-of told reading
@@ -31,4 +32,5 @@ table = record {
   pass-9-flushes = multiplexer.pass-9;
   pass-13-pointers = frames.pass-13;
   pass-13 = bitstream.pass-13;
+  needed = weaker;
 }

@@ -7,4 +7,5 @@ pub mod Demand3
 pub mod Promises
 pub mod RoundTrip
 pub mod Table
+pub mod Weaker
 pub mod calls

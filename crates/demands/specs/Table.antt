@@ -10,6 +10,7 @@ use Rattle.multiplexer.specs.Passes as multiplexer
 use Rattle.extractor.specs.Passes.{sample, first-frame, second-frame, Pass, passes, SamplePasses}
 use Rattle.judge.specs.Judge.{Verdict, pass, fault, verdict}
 use Rattle.bitstream.specs.Passes as bitstream
+use Rattle.demands.specs.Weaker.{Weaker}
 
 -- what is shown of a packet: its APID or protocol, whether it is idle, and its length
 pub record Shown : Type 0 where
@@ -52,3 +53,5 @@ pub record Table : Type 0 where
   pub pass-9-flushes : multiplexer.Pass9
   pub pass-13-pointers : frames.Pass13
   pub pass-13 : bitstream.Pass13
+  -- and each part of the rule for "some list" is needed
+  pub needed : Weaker
