@@ -2,6 +2,7 @@
 use Prim.Native.Nat.{ℕ, zero, suc, _+_, _-_, _*_, _/_, _%_, _^_, _<_}
 use mathlib.Core.List.{List, [], _∷_, _++_}
 use mathlib.Core.Bool.{Bool, true, false}
+use mathlib.Core.Path.{_≡_}
 use lib.ListN.{length, take, drop}
 use lib.Dec.{leb}
 use Rattle.octets.specs.declared.Place.{Place}
@@ -79,14 +80,27 @@ unfoldable pub first : List Row → ℕ
 first [] = 0
 first (r ∷ rs) = pick (r .holds) (r .refusal) (first rs)
 
+-- whether the n octets from `at` lie within others
+abbrev pub fits : List ℕ → ℕ → ℕ → Bool
+fits os at n = leb (at + n) (length os)
+
 -- the number in the n octets from `at`; 0 where they run past the end
 unfoldable pub number-at : ℕ → ℕ → List ℕ → ℕ
-number-at n at os = pick (leb (at + n) (length os)) (number (take n (drop at os))) 0
+number-at n at os = pick (fits os at n) (number (take n (drop at os))) 0
 
 -- `os` written over `buffer` from `at` where it fits; `buffer` as it was where not
 unfoldable pub laid : List ℕ → ℕ → List ℕ → List ℕ
-laid buffer at os = pick (leb (at + length os) (length buffer)) (over buffer at os) buffer
+laid buffer at os = pick (fits buffer at (length os)) (over buffer at os) buffer
 
--- the same of the octets of `os` from `from` up to `to`, where there are such
+-- whether `os` has octets from `from` up to `to`, and they fit
+abbrev pub part-fits : List ℕ → ℕ → ℕ → ℕ → List ℕ → Bool
+part-fits buffer at from to os = and (and (leb from to) (leb to (length os))) (fits buffer at (to - from))
+
+-- these octets written over `buffer` from `at`; `buffer` as it was where they do not fit
 unfoldable pub laid-part : List ℕ → ℕ → ℕ → ℕ → List ℕ → List ℕ
-laid-part buffer at from to os = pick (and (leb from to) (leb to (length os))) (laid buffer at (part from to os)) buffer
+laid-part buffer at from to os = pick (part-fits buffer at from to os) (over buffer at (part from to os)) buffer
+
+-- what a call that writes answers and leaves: 0, or 2 where there is no room; and the buffer, written over or as it was
+pub record Lays (room : Bool) (written : List ℕ) (r : ℕ) (buffer : List ℕ) : Type 0 where
+  pub answer : r ≡ pick room 0 2
+  pub left : buffer ≡ written

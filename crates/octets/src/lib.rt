@@ -3,7 +3,7 @@ ghost use mathlib.Core.Path.{_≡_};
 ghost use Prim.Native.Nat.{_+_, _-_, _/_, _^_, _≤_, min};
 ghost use lib.ListN.{length, take, drop, getD, replicate};
 ghost use lib.Dec.{leb};
-ghost use Rattle.octets.specs.Basics.{pick, field, join, placed, number, number-at, octets, over, laid, laid-part};
+ghost use Rattle.octets.specs.Basics.{pick, field, join, placed, number, number-at, octets, over, fits, laid, part-fits, laid-part, Lays};
 
 // Where a field stands in a word: how many bits lie below it, and how many it has.
 pub struct Place {
@@ -117,12 +117,15 @@ pub fn number6(s: &[u8], at: usize) -> u64
     }
 }
 
-// Writes n as k octets over buf from `at`, the most significant first; nothing where they do not fit.
-pub fn put(buf: &mut [u8], at: usize, k: usize, n: u64)
-    ensures { λ _. ⌜ now (buf .exit) ≡ laid (now (buf .entry)) at (octets k n) ⌝ }
+// The answer where octets do not fit.
+const NO_ROOM: u8 = 2;
+
+// Writes n as k octets over buf from `at`, the most significant first, and answers 0; or nothing, and answers 2, where they do not fit.
+pub fn put(buf: &mut [u8], at: usize, k: usize, n: u64) -> u8
+    ensures { λ r. ⌜ Lays (fits (now (buf .entry)) at k) (laid (now (buf .entry)) at (octets k n)) r (now (buf .exit)) ⌝ }
 {
     if !within(buf.len(), at, k) {
-        return;
+        return NO_ROOM;
     }
     let mut rest = n;
     let mut left = k;
@@ -131,6 +134,7 @@ pub fn put(buf: &mut [u8], at: usize, k: usize, n: u64)
         buf[at + left] = (rest & 255) as u8;
         rest = rest >> 8;
     }
+    0
 }
 
 // Copies n octets of src from `from` over buf from `at`.
@@ -146,33 +150,36 @@ fn copy(buf: &mut [u8], at: usize, src: &[u8], from: usize, n: usize)
     }
 }
 
-// Copies src[from..to] over buf from `at`; nothing where either range does not fit.
-pub fn lay(buf: &mut [u8], at: usize, src: &[u8], from: usize, to: usize)
-    ensures { λ _. ⌜ now (buf .exit) ≡ laid-part (now (buf .entry)) at from to (now (src .entry)) ⌝ }
+// Copies src[from..to] over buf from `at`, and answers 0; or nothing, and answers 2, where src has no such part or it does not fit.
+pub fn lay(buf: &mut [u8], at: usize, src: &[u8], from: usize, to: usize) -> u8
+    ensures { λ r. ⌜ Lays (part-fits (now (buf .entry)) at from to (now (src .entry))) (laid-part (now (buf .entry)) at from to (now (src .entry))) r (now (buf .exit)) ⌝ }
 {
     if to < from {
-        return;
+        return NO_ROOM;
     }
     if src.len() < to {
-        return;
+        return NO_ROOM;
     }
-    if within(buf.len(), at, to - from) {
-        copy(buf, at, src, from, to - from);
+    if !within(buf.len(), at, to - from) {
+        return NO_ROOM;
     }
+    copy(buf, at, src, from, to - from);
+    0
 }
 
-// Writes n times the octet over buf from `at`; nothing where they do not fit.
-pub fn fill(buf: &mut [u8], at: usize, n: usize, octet: u8)
-    ensures { λ _. ⌜ now (buf .exit) ≡ laid (now (buf .entry)) at (replicate n octet) ⌝ }
+// Writes n times the octet over buf from `at`, and answers 0; or nothing, and answers 2, where they do not fit.
+pub fn fill(buf: &mut [u8], at: usize, n: usize, octet: u8) -> u8
+    ensures { λ r. ⌜ Lays (fits (now (buf .entry)) at n) (laid (now (buf .entry)) at (replicate n octet)) r (now (buf .exit)) ⌝ }
 {
     if !within(buf.len(), at, n) {
-        return;
+        return NO_ROOM;
     }
     let mut i = 0;
     while i < n {
         buf[at + i] = octet;
         i += 1;
     }
+    0
 }
 
 // A row of a table of refusals: its refusal where it holds, else what the rows below it say.
