@@ -7,12 +7,13 @@ use Prim.Native.Nat.{ℕ, _+_, _-_, _/_, _%_, _≤_, _<_}
 use native.Mathlib.Omega.{arith}
 use lib.ListN.{length, getD, replicate, length-append, length-replicate}
 use lib.Dec.{leb, eqb}
-use borrow.Author.Tests.{leb-true, leb-false, le-leb, eqb-true, eqb-false}
-use Rattle.octets.specs.Basics.{pick, field, join, octets, placed, over, laid}
-use Rattle.octets.proofs.Written.{laid-within, laid-past, length-over, over-over}
+use borrow.Author.Tests.{leb-true, leb-false, le-ltb, ltb-false, eqb-true, eqb-false, ne-eqb}
+use Rattle.octets.specs.Basics.{pick, field, join, octets, placed, over, laid, first}
+use Rattle.octets.proofs.Choices.{split, none-holds, or-false}
+use Rattle.octets.proofs.Written.{laid-within, length-over, over-over}
 use Rattle.packets.specs.Packet.{whole, look, encapsulation, WellFormed, packet-version, protocol-of, is-idle, header-length}
 use Rattle.packets.specs.Front.{first-octet, second-octet, front}
-use Rattle.packets.specs.Idle.{idle-header, idle-packet, idle-lol, idle-laid}
+use Rattle.packets.specs.Idle.{idle-header, idle-packet, idle-lol, idle-packet-rows}
 use Rattle.packets.proofs.Fronts.{first-version, first-protocol, length-front, front-first, front-look}
 
 -- ---- the header, as the header of an encapsulation packet of protocol 0
@@ -89,26 +90,35 @@ module _ (fill r : ℕ) (some : 1 ≤ r) where
 
 -- ---- the packet over a buffer
 
-module _ (d : List ℕ) (at fill r : ℕ) (some : 1 ≤ r) (most : r ≤ 65535) where
-  laid-idle : idle-laid d at r fill ≡ laid d at (idle-packet fill r)
-  unfolding idle-laid
-  laid-idle = rw (le-leb 1 r some, le-leb r 65535 most) refl
+-- what holds where no row does, and where none does
+pub idle-admitted : (d : List ℕ) (at r : ℕ) → first (idle-packet-rows r (length d - at)) ≡ 0 → (1 ≤ r) × (at + r ≤ length d)
+unfolding idle-packet-rows
+idle-admitted d at r e =
+    let a = none-holds 0 _ _ e in
+    let u = or-false _ _ (a .0) in
+    let some : 1 ≤ r = split 1 r (λ h. h) (λ h. absurd (eqb-false r 0 (u .0) (omega arith))) in
+    let roomy : r ≤ length d - at = ltb-false (length d - at) r (none-holds 1 _ _ (a .1) .0) in
+    (some, omega arith)
 
-  pub idle-past : length d < at + r → idle-laid d at r fill ≡ d
-  idle-past h = laid-idle ∙ laid-past d at (idle-packet fill r) (omega (arith, idle-length fill r some))
+pub idle-admits : (d : List ℕ) (at r : ℕ) → 1 ≤ r → r ≤ 65535 → at + r ≤ length d → first (idle-packet-rows r (length d - at)) ≡ 0
+unfolding idle-packet-rows first
+idle-admits d at r some most roomy =
+    let there : r ≡ 0 → ⊥ = λ e. omega arith in
+    let room : r ≤ length d - at = omega arith in
+    rw (ne-eqb r 0 there, le-ltb 65535 r most, le-ltb (length d - at) r room) refl
 
-  -- its header, and then the fill
-  pub idle-written : at + r ≤ length d
-      → laid (over d at (front 0 0 (idle-lol r) r)) (at + header-length (idle-lol r)) (replicate (r - header-length (idle-lol r)) fill) ≡ idle-laid d at r fill
-  idle-written h =
-      let n : ℕ = header-length (idle-lol r) in
-      let header : List ℕ = front 0 0 (idle-lol r) r in
-      let fills : List ℕ = replicate (r - n) fill in
-      let long : length header ≡ n = length-front 0 0 (idle-lol r) r in
-      let short : n ≤ r = idle-size r some in
-      let room : length (over d at header) ≡ length d = length-over d at header (omega arith) in
-      laid-within (over d at header) (at + n) fills (omega (arith, length-replicate (r - n) fill))
-      ∙ ap (λ (k : ℕ). over (over d at header) (at + k) fills) (sym long)
-      ∙ over-over d at header fills (omega arith)
-      ∙ ap (over d at) (sym (packet-front fill r some))
-      ∙ sym (laid-idle ∙ laid-within d at (idle-packet fill r) (omega (arith, idle-length fill r some)))
+-- its header, and then the fill
+pub idle-written : (d : List ℕ) (at fill r : ℕ) → 1 ≤ r → at + r ≤ length d
+    → laid (over d at (front 0 0 (idle-lol r) r)) (at + header-length (idle-lol r)) (replicate (r - header-length (idle-lol r)) fill)
+    ≡ over d at (idle-packet fill r)
+idle-written d at fill r some h =
+    let n : ℕ = header-length (idle-lol r) in
+    let header : List ℕ = front 0 0 (idle-lol r) r in
+    let fills : List ℕ = replicate (r - n) fill in
+    let long : length header ≡ n = length-front 0 0 (idle-lol r) r in
+    let short : n ≤ r = idle-size r some in
+    let room : length (over d at header) ≡ length d = length-over d at header (omega arith) in
+    laid-within (over d at header) (at + n) fills (omega (arith, length-replicate (r - n) fill))
+    ∙ ap (λ (k : ℕ). over (over d at header) (at + k) fills) (sym long)
+    ∙ over-over d at header fills (omega arith)
+    ∙ ap (over d at) (sym (packet-front fill r some))

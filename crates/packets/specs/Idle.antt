@@ -2,8 +2,8 @@
 use Prim.Native.Nat.{ℕ, _-_}
 use mathlib.Core.List.{List, [], _∷_, _++_}
 use lib.ListN.{length, replicate}
-use lib.Dec.{leb, eqb}
-use Rattle.octets.specs.Basics.{pick, and, octets, laid}
+use lib.Dec.{leb, ltb, eqb}
+use Rattle.octets.specs.Basics.{pick, or, octets, Row, row}
 
 -- its header, for r octets
 unfoldable pub idle-header : ℕ → List ℕ
@@ -17,6 +17,6 @@ idle-packet fill r = idle-header r ++ replicate (r - length (idle-header r)) fil
 unfoldable pub idle-lol : ℕ → ℕ
 idle-lol r = pick (eqb r 1) 0 (pick (leb r 255) 1 2)
 
--- the packet written over `output` from `at`, where it fits and its header can state its length
-unfoldable pub idle-laid : List ℕ → ℕ → ℕ → ℕ → List ℕ
-idle-laid output at r fill = pick (and (leb 1 r) (leb r 65535)) (laid output at (idle-packet fill r)) output
+-- the refusals, for r octets and the room there is: a length that no idle packet has, and lack of room
+unfoldable pub idle-packet-rows : ℕ → ℕ → List Row
+idle-packet-rows r room = row 1 (or (eqb r 0) (ltb 65535 r)) ∷ row 2 (ltb room r) ∷ []

@@ -1,16 +1,20 @@
 // The header of an encapsulation packet, written; and the idle packet.
 ghost use mathlib.Core.Path.{_≡_};
-ghost use Prim.Native.Nat.{_+_, _≤_};
+ghost use Prim.Native.Nat.{_+_, _-_, _≤_};
 ghost use lib.ListN.{length};
-ghost use Rattle.octets.specs.Basics.{over};
+ghost use lib.Dec.{eqb};
+ghost use Rattle.octets.specs.Basics.{pick, over, first};
 ghost use Rattle.packets.specs.Packet.{header-length};
 ghost use Rattle.packets.specs.Front.{first-octet, second-octet, front};
-ghost use Rattle.packets.specs.Idle.{idle-lol, idle-laid};
+ghost use Rattle.packets.specs.Idle.{idle-packet, idle-lol, idle-packet-rows};
 use super::EXTENSION;
 use super::LENGTH_OF_LENGTH;
 use super::PROTOCOL;
 use super::VERSION;
 use super::header_length;
+
+// The longest idle packet: two octets state its length.
+const MOST_IDLE: usize = 65535;
 
 // The first octet of an encapsulation packet.
 fn first_octet(protocol: u8, lol: u8) -> u8
@@ -57,25 +61,20 @@ fn idle_lol(r: usize) -> u8
     if r <= 255 { 1 } else { 2 }
 }
 
-// Writes an idle packet of r octets over `out` from `at`; nothing where it does not fit, and for r = 0 or above 65,535.
-pub fn write_idle(out: &mut [u8], at: usize, r: usize, fill: u8)
-    ensures { λ _. ⌜ now (out .exit) ≡ idle-laid (now (out .entry)) at r fill ⌝ }
+// Writes an idle packet of r octets over `out` from `at`, and answers 0; or nothing, and answers the refusal: 1 for a length that no
+// idle packet has, 2 where it does not fit.
+pub fn write_idle(out: &mut [u8], at: usize, r: usize, fill: u8) -> u8
+    ensures { λ n. ⌜ n ≡ first (idle-packet-rows r (length (now (out .entry)) - at)) ⌝ }
+    ensures { λ n. ⌜ now (out .exit) ≡ pick (eqb n 0) (over (now (out .entry)) at (idle-packet fill r)) (now (out .entry)) ⌝ }
 {
-    if r < 1 {
-        return;
-    }
-    if 65535 < r {
-        return;
-    }
-    let len = out.len();
-    if len < r {
-        return;
-    }
-    if len - r < at {
-        return;
+    let room = octets::refused(octets::less(out.len(), at) < r, 2, 0);
+    let refusal = octets::refused((r == 0) | (MOST_IDLE < r), 1, room);
+    if refusal != 0 {
+        return refusal;
     }
     let lol = idle_lol(r);
     let size = header_length(lol);
     write_front(out, at, 0, 0, lol, r);
     octets::fill(out, at + size, r - size, fill);
+    0
 }

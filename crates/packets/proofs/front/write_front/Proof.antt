@@ -29,7 +29,7 @@ returns c =
     let at-start = at-size .before .before in
     let a = at-start .args in
     written (a .protocol) (a .extension) (a .lol) (a .total) (a .out .now) (a .at) (at-start .pre) (at-size .header-length .ensures)
-    (at-first .first-octet .ensures) (at-second .second-octet .ensures) (at-lay .lay .ensures) (at-put .put .ensures)
+    (at-first .first-octet .ensures) (at-second .second-octet .ensures) (at-lay .lay .ensures .left) (at-put .put .ensures .left)
 
 pub write-front-spec : {M : Type 1} → statement M
 write-front-spec =

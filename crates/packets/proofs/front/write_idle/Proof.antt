@@ -1,89 +1,93 @@
--- `packets::front::write_idle` meets its contract: nothing, or the header and then the fill.
+-- `packets::front::write_idle` meets its contract: a refusal, or the header and then the fill.
 -- Assumes nothing.
-use mathlib.Core.Path.{_≡_, refl, sym, ap}
+use mathlib.Core.Path.{_≡_, refl, sym, ap, _∙_}
 use mathlib.Core.List.{List}
 use Prim.Native.Nat.{ℕ, _+_, _-_, _≤_}
 use native.Mathlib.Omega.{arith}
 use lib.ListN.{length, replicate}
-use borrow.Author.Tests.{le-leb, lt-leb}
-use Rattle.octets.specs.Basics.{over, laid}
+use lib.Dec.{ltb, eqb}
+use borrow.Author.Tests.{ne-eqb}
+use Rattle.octets.specs.Basics.{pick, or, over, laid, first}
 use Rattle.packets.specs.Packet.{header-length}
 use Rattle.packets.specs.Front.{front}
-use Rattle.packets.specs.Idle.{idle-lol, idle-laid}
-use Rattle.packets.proofs.Idles.{idle-size, idle-past, idle-written}
+use Rattle.packets.specs.Idle.{idle-packet, idle-lol, idle-packet-rows}
+use Rattle.packets.proofs.Idles.{idle-size, idle-admitted, idle-written}
 use borrow.Author.Needs.{needs}
 use Rattle.packets.proofs.front.write_idle.Statement.{statement}
 use Rattle.packets.proofs.front.write_idle.Tie as tie
 
+-- the refusal is the table's
+module _ (c : tie.After-refused2) where
+  abbrev start : tie.Start
+  start = c .before .before .before .before
+
+  refusal : c .refused2 .result ≡ first (idle-packet-rows (start .args .r) (length (start .args .out .now) - start .args .at))
+  unfolding first idle-packet-rows
+  refusal =
+      let r : ℕ = start .args .r in
+      c .refused2 .ensures
+      ∙ ap (pick (or (eqb r 0) (ltb 65535 r)) 1) (c .before .refused .ensures ∙ ap (λ room. pick (ltb room r) 2 0) (c .before .before .less .ensures))
+
 returns : tie.Need-returns
-unfolding idle-laid
-returns c = rw (lt-leb 1 _ (c .if1 .taken)) refl
+returns c = (refusal (c .before), rw (ne-eqb _ _ (c .if1 .taken)) refl)
 
-returns-2 : tie.Need-returns-2
-unfolding idle-laid
-returns-2 c = rw (le-leb 1 _ (c .before .if1 .left), lt-leb _ 65535 (c .if2 .taken)) refl
+-- a packet that is not refused
+module _ (c : tie.Else1) where
+  abbrev its : tie.Start
+  its = start (c .before)
 
-returns-3 : tie.Need-returns-3
-returns-3 c =
-    let at-if2 = c .before in
-    let a = at-if2 .before .before .before .args in
-    sym (idle-past (a .out .now) (a .at) (a .fill) (a .r) (at-if2 .before .if1 .left) (at-if2 .if2 .left) (omega (arith, c .if3 .taken)))
+  none : first (idle-packet-rows (its .args .r) (length (its .args .out .now) - its .args .at)) ≡ 0
+  none = sym (refusal (c .before)) ∙ c .if1 .left
 
-returns-4 : tie.Need-returns-4
-returns-4 c =
-    let at-if2 = c .before .before in
-    let a = at-if2 .before .before .before .args in
-    sym (idle-past (a .out .now) (a .at) (a .fill) (a .r) (at-if2 .before .if1 .left) (at-if2 .if2 .left) (omega (arith, c .if4 .taken)))
+  passed : (1 ≤ its .args .r) × (its .args .at + its .args .r ≤ length (its .args .out .now))
+  passed = idle-admitted (its .args .out .now) (its .args .at) (its .args .r) none
 
 -- the header is no longer than the packet
-shorter : (c : tie.After-header-length) → c .header-length .result ≤ c .before .before .before .before .before .before .before .args .r
+shorter : (c : tie.After-header-length) → c .header-length .result ≤ its (c .before .before) .args .r
 shorter c =
-    let at-if1 = c .before .before .before .before .before in
-    omega (arith, c .header-length .ensures, ap header-length (c .before .idle-lol .ensures), idle-size (at-if1 .before .before .args .r) (at-if1 .if1 .left))
-
--- the packet lies within the output
-within : (c : tie.Else4) → c .before .before .before .before .before .args .at + c .before .before .before .before .before .args .r ≤ length (c .before .before .before .before .before .args .out .now)
-within c = omega (arith, c .if4 .left, c .before .if3 .left)
+    let at-lol = c .before in
+    omega (arith, c .header-length .ensures, ap header-length (at-lol .idle-lol .ensures), idle-size (its (at-lol .before) .args .r) (passed (at-lol .before) .0))
 
 write-front-requires : tie.Need-write-front-requires
 write-front-requires c κs =
     let at-header = c .before in
-    omega (arith, at-header .header-length .ensures, shorter at-header, within (at-header .before .before))
+    omega (arith, at-header .header-length .ensures, shorter at-header, passed (at-header .before .before) .1)
 
 add-fill : tie.Need-add-fill
 add-fill c =
     let at-header = c .before .before .before .before .before in
-    let at-if4 = at-header .before .before in
-    omega (arith, shorter at-header, within at-if4, at-if4 .before .before .before .before .before .good)
+    let at-if1 = at-header .before .before in
+    omega (arith, shorter at-header, passed at-if1 .1, its at-if1 .good)
 
 sub-fill : tie.Need-sub-fill
 sub-fill c = shorter (c .before .before .before .before .before)
 
 -- what is written, by what the calls give
-written : (d : List ℕ) (at fill r : ℕ) {lol size : ℕ} {begun done : List ℕ} → 1 ≤ r → r ≤ 65535 → at + r ≤ length d → lol ≡ idle-lol r → size ≡ header-length lol
-    → begun ≡ over d at (front 0 0 lol r) → done ≡ laid begun (at + size) (replicate (r - size) fill) → done ≡ idle-laid d at r fill
-written d at fill r some most h l s b w = cc (idle-written d at fill r some most h)
+written : (d : List ℕ) (at fill r : ℕ) {lol size : ℕ} {begun done : List ℕ} → 1 ≤ r → at + r ≤ length d → lol ≡ idle-lol r → size ≡ header-length lol
+    → begun ≡ over d at (front 0 0 lol r) → done ≡ laid begun (at + size) (replicate (r - size) fill) → done ≡ over d at (idle-packet fill r)
+written d at fill r some h l s b w = cc (idle-written d at fill r some h)
 
-returns-5 : tie.Need-returns-5
-returns-5 c =
+returns-2 : tie.Need-returns-2
+returns-2 c =
     let at-fill = c .before .before in
     let at-front = at-fill .before .before .before .before in
     let at-header = at-front .before .before in
     let at-lol = at-header .before in
-    let at-if4 = at-lol .before in
-    let at-if2 = at-if4 .before .before in
-    let a = at-if2 .before .before .before .args in
-    written (a .out .now) (a .at) (a .fill) (a .r) (at-if2 .before .if1 .left) (at-if2 .if2 .left) (within at-if4)
-    (at-lol .idle-lol .ensures) (at-header .header-length .ensures) (at-front .write-front .ensures) (at-fill .fill .ensures)
+    let at-if1 = at-lol .before in
+    let a = its at-if1 .args in (
+      sym (none at-if1),
+      written (a .out .now) (a .at) (a .fill) (a .r) (passed at-if1 .0) (passed at-if1 .1)
+          (at-lol .idle-lol .ensures) (at-header .header-length .ensures) (at-front .write-front .ensures) (at-fill .fill .ensures .left),
+    )
 
 pub write-idle-spec : {M : Type 1} → statement M
 write-idle-spec =
     tie.close
     (tie.spec
+    (λ c κs. search needs)
+    (λ c κs. search needs)
+    (λ c κs. search needs)
     returns
-    returns-2
-    returns-3
-    returns-4
     (λ c κs. search needs)
     (λ c κs. search needs)
     write-front-requires
@@ -91,4 +95,4 @@ write-idle-spec =
     sub-fill
     (λ c κs. search needs)
     (λ c. search needs)
-    returns-5)
+    returns-2)

@@ -64,7 +64,7 @@ returns-2 c =
     let a = at-total .before .before .before .args in
     done (a .limit) (a .protocol) (a .extension) (a .unit .now) (a .out .now)
     (at-total .wrapped-total .ensures) (at-refusal .wrap-refusal .ensures) (at-if1 .if1 .left)
-    (at-lol .lol-for .ensures) (at-header .header-length .ensures) (at-front .write-front .ensures) (at-lay .lay .ensures)
+    (at-lol .lol-for .ensures) (at-header .header-length .ensures) (at-front .write-front .ensures) (at-lay .lay .ensures .left)
 
 pub wrap-spec : {M : Type 1} → statement M
 wrap-spec =
