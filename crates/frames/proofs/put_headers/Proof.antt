@@ -11,7 +11,7 @@ returns c =
     let start = at-put .before .before .before .before in
     let a = start .args in
     headers-laid (a .l) (a .count) 0 (a .zone) _ (a .buf .now) _ _ (start .pre) (at-put .before .head-word .ensures)
-    (at-put .put .ensures) (c .before .before .put2 .ensures)
+    (at-put .put .ensures .left) (c .before .before .put2 .ensures .left)
 
 pub put-headers-spec : {M : Type 1} → statement M
 put-headers-spec =

@@ -29,7 +29,7 @@ returns-2 c =
     let at-if1 = c .before .before .before .before .before in
     let a = at-if1 .before .before .before .before .before .args in
     let r : first (space-rows (a .h) (length (a .out .now))) ≡ 0 = sym (refusal (at-if1 .before)) ∙ at-if1 .if1 .left in
-    rw (r, c .before .before .put .ensures, c .before .before .before .word-of .ensures)
+    rw (r, c .before .before .put .ensures .left, c .before .before .before .word-of .ensures)
     (ap (λ (l : List ℕ). record { refusal = 0; output = l }) (laid-within (a .out .now) 0 (octets 6 (space-word (a .h)))
     (omega (arith, length-octets 6 (space-word (a .h)), space-admitted (a .h) (length (a .out .now)) r))))
 
