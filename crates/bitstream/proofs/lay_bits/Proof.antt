@@ -31,7 +31,7 @@ module _ (c : tie.After-slice-known3) where
   so-far : at-fill .fill .last .0 ≡ over (start .args .frame .now) 8 (take (start .args .n / 8) (start .args .bits .now) ++ replicate (start .args .s .width - start .args .n / 8) (start .args .s .fill))
   so-far =
       filled (start .args .s) (start .args .n) (start .args .bits .now) (start .args .frame .now) (start .pre) _ _
-      (at-lay .lay .ensures) (at-fill .fill .ensures)
+      (at-lay .lay .ensures .left) (at-fill .fill .ensures .left)
 
   as-long : length (at-fill .fill .last .0) ≡ length (start .args .frame .now)
   as-long = omega (arith, at-fill .fill .kept .0, at-lay .lay .kept .0)

@@ -1,17 +1,18 @@
 -- `multiplexer::lay_idle_packet` meets its contract: the idle packet is laid to the zone's end, and counted.
 -- Assumes nothing.
-use mathlib.Core.Path.{_≡_}
+use mathlib.Core.Path.{_≡_, _∙_}
 use mathlib.Core.List.{List}
-use Prim.Native.Nat.{ℕ, _-_}
+use Prim.Native.Nat.{ℕ, _+_, _-_}
 use native.Mathlib.Omega.{arith}
 use lib.ListN.{length}
-use borrow.Author.Tests.{le-leb}
-use Rattle.packets.specs.Idle.{idle-packet, idle-laid}
-use Rattle.packets.proofs.Idles.{idle-length}
+use borrow.Author.Tests.{eq-eqb}
+use Rattle.frames.specs.Frame.{frame-length}
+use Rattle.packets.specs.Idle.{idle-packet}
+use Rattle.packets.proofs.Idles.{idle-length, idle-admits}
 use Rattle.multiplexer.specs.Multiplex.{fits-now}
 use Rattle.multiplexer.proofs.Records.{start-fits}
 use Rattle.multiplexer.proofs.Rows.{Accepted, flush-passed}
-use Rattle.multiplexer.proofs.Laying.{accepted-fills, part-all, laid-in}
+use Rattle.multiplexer.proofs.Laying.{accepted-fills, part-all}
 use borrow.Author.Needs.{needs}
 use Rattle.multiplexer.proofs.lay_idle_packet.Statement.{statement}
 use Rattle.multiplexer.proofs.lay_idle_packet.Tie as tie
@@ -50,7 +51,7 @@ packet-laid-requires c κs =
     )
 
 returns : tie.Need-returns
-unfolding packet fits-now idle-laid
+unfolding packet fits-now frame-length
 returns c =
     let at-answer = c .before .before in
     let at-write = at-answer .before .before .before .before in
@@ -59,9 +60,9 @@ returns c =
     let w = passed at-start in
     let l = long at-start in
     let left : ℕ = a .s .zone - a .m .filled in
-    let written = rw (le-leb 1 left (omega arith), le-leb left 65535 (omega arith)) at (at-write .write-idle .ensures) in
+    let answer = at-write .write-idle .ensures .0 ∙ idle-admits (a .frame .now) (8 + a .m .filled) left (omega arith) (omega arith) (omega (arith, w .0 .lent .enough)) in
     at-answer .packet-laid .ensures (packet at-start) (a .frame .now) l (omega arith)
-    (rw (part-all (packet at-start) (a .m .taken) _ (w .1) l) (laid-in (a .frame .now) (w .0) (packet at-start) (omega arith) written))
+    (rw (part-all (packet at-start) (a .m .taken) _ (w .1) l) (rw (eq-eqb _ _ answer) at (at-write .write-idle .ensures .1)))
 
 pub lay-idle-packet-spec : {M : Type 1} → statement M
 lay-idle-packet-spec =

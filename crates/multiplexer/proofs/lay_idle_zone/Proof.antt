@@ -33,7 +33,7 @@ returns c =
     let w = passed at-start in
     let long = length-replicate (a .s .zone) (a .s .fill) in
     zone-laid (a .s) (a .m) (a .frame .now)
-    (laid-in (a .frame .now) (w .0) (replicate (a .s .zone) (a .s .fill)) (omega arith) (at-fill .fill .ensures))
+    (laid-in (a .frame .now) (w .0) (replicate (a .s .zone) (a .s .fill)) (omega arith) (at-fill .fill .ensures .left))
     (at-count .count-in .ensures)
 
 pub lay-idle-zone-spec : {M : Type 1} → statement M

@@ -56,7 +56,7 @@ returns c =
     let a = at-start .args in
     let h = within at-least in
     at-answer .packet-laid .ensures (a .p .now) (a .frame .now) refl (at-least .least .ensures)
-    (part-laid-in (a .frame .now) (passed at-start .0) (a .p .now) (a .m .taken) _ (h .1) (h .0) (at-lay .lay .ensures))
+    (part-laid-in (a .frame .now) (passed at-start .0) (a .p .now) (a .m .taken) _ (h .1) (h .0) (at-lay .lay .ensures .left))
 
 pub lay-packet-spec : {M : Type 1} → statement M
 lay-packet-spec =

@@ -9,7 +9,7 @@ returns : tie.Need-returns
 returns c =
     let at-start = c .before .before .before .before .before .before in
     let a = at-start .args in
-    puts-whole (a .out .now) (a .at) (a .text .now) (at-start .pre) (c .before .before .lay .ensures)
+    puts-whole (a .out .now) (a .at) (a .text .now) (at-start .pre) (c .before .before .lay .ensures .left)
 
 pub put-spec : {M : Type 1} → statement M
 put-spec = tie.close (tie.spec (λ c κs. search needs) (λ c. search needs) (λ c. search needs) returns)

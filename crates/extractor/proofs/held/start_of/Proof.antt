@@ -14,7 +14,7 @@ returns c =
     let at-least2 = c .before .before .before .before .before .before in (
       started _ (a .store .now) (a .frame .now) _ _ (a .held) (a .from) (a .to) (at-least .least .result) (at-least2 .least2 .result)
           refl (omega arith) (omega arith) (omega arith) (at-least .least .ensures) (omega arith)
-          (c .before .before .before .before .lay .ensures) (c .before .lay2 .ensures),
+          (c .before .before .before .before .lay .ensures .left) (c .before .lay2 .ensures .left),
       omega arith,
     )
 

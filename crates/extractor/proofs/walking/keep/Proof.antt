@@ -20,7 +20,7 @@ returns c =
     length-run (a .frame .now) (a .from) (a .to - a .from) (omega arith) in
     rw n
     (ap₂ (λ (k : ℕ) (st : List ℕ). steps-to Spent (InStep (a .last) (a .held + k)) st) {y = a .to - a .from} (omega arith)
-    (c .before .before .lay .ensures
+    (c .before .before .lay .ensures .left
     ∙ part-within (a .store .now) (a .held) (a .from) (a .to) (a .frame .now) (omega arith) (omega arith) (omega arith)))
 
 pub keep-spec : {M : Type 1} → statement M

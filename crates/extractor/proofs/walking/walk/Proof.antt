@@ -93,7 +93,7 @@ returns-6 c =
     let at-look = at-idle .before .before in
     rw (at-if2 .before .onward .ensures)
     (step-laid (start at-look .pre) (start at-look .args .last) _ (at-look .look-on .ensures) (at-idle .idle .given .1)
-    (at-less .before .if1 .left) _ _ (at-if2 .if2 .left) (at-less .less .ensures) (c .before .before .lay .ensures))
+    (at-less .before .if1 .left) _ _ (at-if2 .if2 .left) (at-less .less .ensures) (c .before .before .lay .ensures .left))
 
 pub walk-spec : {M : Type 1} → statement M
 walk-spec =
