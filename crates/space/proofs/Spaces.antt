@@ -6,17 +6,18 @@ use mathlib.Core.Bool.{true}
 use Prim.Native.Nat.{ℕ, _+_, _^_, _≤_, _<_}
 use native.Mathlib.Nat.{mod-eq-of-lt, mod-one}
 use native.Mathlib.Omega.{arith}
+use lib.Dec.{eqb}
 use lib.ListN.{length, take, take-append-drop}
 use lib.Seq.{length-take-le}
-use borrow.Author.Tests.{leb-true, le-leb, ltb-false, le-ltb, not-false}
+use borrow.Author.Tests.{leb-true, le-leb, ltb-false, le-ltb, eqb-true, eq-eqb, not-false}
 use Rattle.octets.specs.Basics.{number, number-at, octets, over, read, write, first}
 use Rattle.octets.specs.declared.Place.{Place}
-use Rattle.octets.proofs.Choices.{and-true, none-holds}
+use Rattle.octets.proofs.Choices.{and-true, or-false, none-holds}
 use Rattle.octets.proofs.Fields.{field-within, placed-within, placed-read, placed-above, agree-on}
 use Rattle.octets.proofs.Numbers.{Octets, octets-take, run-lt, number-within, number-octets, octets-number}
 use Rattle.octets.proofs.Written.{length-octets, length-over, over-take}
 use Rattle.space.specs.declared.SpaceHeader.{SpaceHeader}
-use Rattle.space.specs.Space.{version-at, type-at, secondary-at, apid-at, flags-at, count-at, length-at, space-fields, space-word, space-in-range, space-reading, space-rows, space-writing}
+use Rattle.space.specs.Space.{version-at, type-at, secondary-at, apid-at, flags-at, count-at, length-at, space-fields, space-word, space-in-range, space-read-rows, space-reading, space-rows, space-writing}
 
 -- ---- the law of fields, at a place in 48 bits
 
@@ -30,7 +31,7 @@ module _ (word : ℕ) (at : Place) (value : ℕ) (fits : word < 2 ^ 48) (inside 
   keeps-above : (other : Place) → at .below + at .width ≤ other .below → read other (write at value word) ≡ read other word
   keeps-above other h = placed-above word (at .below) (at .width) value (omega arith) (omega arith) (other .below) (other .width) h
 
--- ---- each field of a header in range
+-- ---- each field of a header within its width
 
 pub record Ranged (h : SpaceHeader) : Type 0 where
   pub of-version : h .version ≤ 7
@@ -41,17 +42,24 @@ pub record Ranged (h : SpaceHeader) : Type 0 where
   pub of-count : h .count ≤ 16383
   pub of-length : h .length ≤ 65535
 
+-- the version of a header in range
+version-zero : (h : SpaceHeader) → space-in-range h ≡ true → h .version ≡ 0
+unfolding space-in-range
+version-zero h e = eqb-true (h .version) 0 (and-true _ _ e .0)
+
 ranged : (h : SpaceHeader) → space-in-range h ≡ true → Ranged h
 unfolding space-in-range
 ranged h e =
-    let a = and-true _ _ e in
+    let v : h .version ≡ 0 = version-zero h e in
+    let least : h .version ≤ 7 = omega arith in
+    let a = and-true (eqb (h .version) 0) _ e in
     let b = and-true _ _ (a .1) in
     let c = and-true _ _ (b .1) in
     let d = and-true _ _ (c .1) in
     let f = and-true _ _ (d .1) in
     let g = and-true _ _ (f .1) in
     record {
-      of-version = leb-true _ _ (a .0);
+      of-version = least;
       of-type = leb-true _ _ (b .0);
       of-secondary = leb-true _ _ (c .0);
       of-apid = leb-true _ _ (d .0);
@@ -60,11 +68,11 @@ ranged h e =
       of-length = leb-true _ _ (g .1);
     }
 
-in-range : (h : SpaceHeader) → Ranged h → space-in-range h ≡ true
+in-range : (h : SpaceHeader) → h .version ≡ 0 → Ranged h → space-in-range h ≡ true
 unfolding space-in-range
-in-range h r =
+in-range h v r =
     rw (
-      le-leb (h .version) 7 (r .of-version),
+      eq-eqb (h .version) 0 v,
       le-leb (h .«packet_type») 1 (r .of-type),
       le-leb (h .secondary) 1 (r .of-secondary),
       le-leb (h .apid) 2047 (r .of-apid),
@@ -191,10 +199,22 @@ space-admitted h room e =
     let a = none-holds 0 _ _ e in
     (not-false _ (a .0), ltb-false room 6 (none-holds 1 _ _ (a .1) .0))
 
+-- what holds where octets are not refused
+pub space-accepted : (os : List ℕ) → first (space-read-rows os) ≡ 0 → (6 ≤ length os) × (read version-at (number-at 6 0 os) ≡ 0)
+unfolding space-read-rows
+space-accepted os e =
+    let a = or-false _ _ (none-holds 7 _ _ e .0) in
+    (ltb-false (length os) 6 (a .0), eqb-true _ 0 (not-false _ (a .1)))
+
+-- and it is all that is asked of them
+accepts : (os : List ℕ) → 6 ≤ length os → read version-at (number-at 6 0 os) ≡ 0 → first (space-read-rows os) ≡ 0
+unfolding space-read-rows first
+accepts os k v = rw (le-ltb (length os) 6 k, eq-eqb (read version-at (number-at 6 0 os)) 0 v) refl
+
 -- a header that is written is read back
 pub space-written-read : (h : SpaceHeader) (output : List ℕ) → first (space-rows h (length output)) ≡ 0
     → space-reading (space-writing h output .output) ≡ record { accepted = true; refusal = 0; header = h }
-unfolding space-writing space-reading
+unfolding space-writing space-reading space-fields
 space-written-read h output e =
     let k = space-admitted h (length output) e in
     let os : List ℕ = octets 6 (space-word h) in
@@ -205,13 +225,18 @@ space-written-read h output e =
     subst (λ (m : ℕ). take m (over output 0 os) ≡ os) z (over-take output 0 os (omega arith)) in
     let word : number-at 6 0 (over output 0 os) ≡ space-word h =
     number-within 6 0 (over output 0 os) (omega arith) ∙ ap number front ∙ number-octets 6 (space-word h) (word-lt h) in
-    rw (e, le-ltb (length (over output 0 os)) 6 (omega arith), word, fields-word h (ranged h (k .0))) refl
+    let back : space-fields (space-word h) ≡ h = fields-word h (ranged h (k .0)) in
+    let version : read version-at (number-at 6 0 (over output 0 os)) ≡ 0 =
+    ap (read version-at) word ∙ ap (λ (h : SpaceHeader). h .version) back ∙ version-zero h (k .0) in
+    rw (e, accepts (over output 0 os) (omega arith) version, word, back) refl
 
 -- six octets that are read are written back
-pub space-read-written : (os : List ℕ) → Octets os → 6 ≤ length os
+pub space-read-written : (os : List ℕ) → Octets os → first (space-read-rows os) ≡ 0
     → space-writing (space-reading os .header) os ≡ record { refusal = 0; output = os }
-unfolding space-writing space-reading space-rows first over
-space-read-written os o k =
+unfolding space-writing space-reading space-rows first over space-fields
+space-read-written os o accepted =
+    let a = space-accepted os accepted in
+    let k : 6 ≤ length os = a .0 in
     let word : ℕ = number-at 6 0 os in
     let n : length (take 6 os) ≡ 6 = length-take-le 6 os k in
     let e : word ≡ number (take 6 os) = number-within 6 0 os k in
@@ -220,4 +245,4 @@ space-read-written os o k =
     ap (octets 6) (word-fields word below ∙ e)
     ∙ subst (λ (m : ℕ). octets m (number (take 6 os)) ≡ take 6 os) n (octets-number (take 6 os) (octets-take 6 os o)) in
     let six : 0 + length (take 6 os) ≡ 6 = omega arith in
-    rw (le-ltb (length os) 6 k, in-range (space-fields word) (fields-ranged word), same, six, take-append-drop 6 os) refl
+    rw (accepted, le-ltb (length os) 6 k, in-range (space-fields word) (a .1) (fields-ranged word), same, six, take-append-drop 6 os) refl

@@ -4,7 +4,7 @@ use mathlib.Core.List.{List, [], _∷_}
 use mathlib.Core.Bool.{Bool, true, false, not}
 use lib.ListN.{length}
 use lib.Dec.{leb, ltb, eqb}
-use Rattle.octets.specs.Basics.{pick, and, number-at, octets, over, read, write, Row, row, first}
+use Rattle.octets.specs.Basics.{pick, and, or, number-at, octets, over, read, write, Row, row, first}
 use Rattle.octets.specs.declared.Place.{Place}
 use Rattle.space.specs.declared.SpaceHeader.{SpaceHeader}
 use Rattle.space.specs.declared.SpaceRead.{SpaceRead}
@@ -54,10 +54,10 @@ space-word h =
     (write type-at (h .«packet_type»)
     (write version-at (h .version) 0))))))
 
--- each field within its width
+-- the version of a space packet, and each field within its width
 unfoldable pub space-in-range : SpaceHeader → Bool
 space-in-range h =
-    and (leb (h .version) 7)
+    and (eqb (h .version) 0)
     (and (leb (h .«packet_type») 1)
     (and (leb (h .secondary) 1)
     (and (leb (h .apid) 2047)
@@ -65,6 +65,10 @@ space-in-range h =
     (and (leb (h .count) 16383) (leb (h .length) 65535))))))
 
 -- ---- reading
+
+-- the refusal: fewer than six octets, or another version
+unfoldable pub space-read-rows : List ℕ → List Row
+space-read-rows os = row 8 (or (ltb (length os) 6) (not (eqb (read version-at (number-at 6 0 os)) 0))) ∷ []
 
 -- what is answered: whether the call is accepted; the refusal, or 0; and the header, all 0 on a refusal
 pub record SpaceReading : Type 0 where
@@ -76,11 +80,12 @@ pub record SpaceReading : Type 0 where
 abbrev no-header : SpaceHeader
 no-header = record { version = 0; «packet_type» = 0; secondary = 0; apid = 0; flags = 0; count = 0; length = 0 }
 
--- six octets are needed
+-- the rule: a refused call tells of no header
 unfoldable pub space-reading : List ℕ → SpaceReading
 space-reading os =
-    pick (ltb (length os) 6) (record { accepted = false; refusal = 2; header = no-header })
-    (record { accepted = true; refusal = 0; header = space-fields (number-at 6 0 os) })
+    let refusal : ℕ = first (space-read-rows os) in
+    pick (eqb refusal 0) (record { accepted = true; refusal = 0; header = space-fields (number-at 6 0 os) })
+    (record { accepted = false; refusal = refusal; header = no-header })
 
 -- an answer in numbers
 unfoldable pub space-reads : SpaceRead → SpaceReading
@@ -89,7 +94,7 @@ space-reads (SpaceRead.Read header) = record { accepted = true; refusal = 0; hea
 
 -- ---- writing
 
--- the refusals: a field out of range, and lack of room
+-- the refusals: a field out of range or another version, and lack of room
 unfoldable pub space-rows : SpaceHeader → ℕ → List Row
 space-rows h room = row 1 (not (space-in-range h)) ∷ row 2 (ltb room 6) ∷ []
 

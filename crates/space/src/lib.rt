@@ -1,4 +1,4 @@
-// Primary headers of space packets, read and written field by field.
+// Primary headers of space packets, read and written field by field. The version is 000: any other begins no space packet.
 ghost use mathlib.Core.Path.{_≡_};
 ghost use Prim.Native.Nat.{_≤_};
 ghost use Rattle.octets.specs.Basics.{read};
@@ -74,16 +74,17 @@ fn wide(word: u64, at: Place) -> u16
     octets::field(word, at) as u16
 }
 
-// Reads the header in the first six octets; fewer are refused.
+// Reads the header in the first six octets; fewer, or another version, are refused.
 pub fn read_space(octets: &[u8]) -> SpaceRead
     ensures { λ r. ⌜ space-reads r ≡ space-reading (now (octets .entry)) ⌝ }
 {
-    if octets.len() < 6 {
-        return SpaceRead::Refused { refusal: 2 };
-    }
     let word = octets::number6(octets, 0);
+    let version = narrow(word, VERSION);
+    if (octets.len() < 6) | (version != 0) {
+        return SpaceRead::Refused { refusal: 8 };
+    }
     let header = SpaceHeader {
-        version: narrow(word, VERSION),
+        version,
         packet_type: narrow(word, TYPE),
         secondary: narrow(word, SECONDARY),
         apid: wide(word, APID),
@@ -94,11 +95,11 @@ pub fn read_space(octets: &[u8]) -> SpaceRead
     SpaceRead::Read { header }
 }
 
-// Whether each field is within its width; a length always is.
+// Whether the version is a space packet's and each field within its width; a length always is.
 fn in_range(h: SpaceHeader) -> bool
     ensures { λ r. ⌜ r ≡ space-in-range h ⌝ }
 {
-    (h.version <= 7)
+    (h.version == 0)
         & ((h.packet_type <= 1)
             & ((h.secondary <= 1) & ((h.apid <= 2047) & ((h.flags <= 3) & (h.count <= 16383)))))
 }
