@@ -10,6 +10,7 @@ use Rattle.extractor.proofs.Theorems.{says-the-rules, spends-in-time}
 use Rattle.demands.specs.Demand2.{Demand2}
 use Rattle.demands.proofs.CarefulRuns.{run-delivers, list-carried}
 use Rattle.demands.proofs.RoundTrips.{orders-handed-over, list-handed-over}
+use Rattle.demands.proofs.SpaceAndPackets.{same-header}
 
 pub demand-2 : Demand2
 demand-2 = record {
@@ -19,7 +20,7 @@ demand-2 = record {
     pointer-back = λ s c p f ok wheel short headed. pointer-read s (settled s ok) c p wheel short f headed;
     again = frame-again;
   };
-  packets-read = record { wrapped = round-trip; space = space-written-read; space-again = space-read-written };
+  packets-read = record { wrapped = round-trip; space = space-written-read; space-again = space-read-written; space-same = same-header };
   bits-read = record { written-read = read-back; read-has = λ s x f o done. has-bits s x f o done };
   orders = run-delivers;
   orders-back = orders-handed-over;

@@ -14,5 +14,6 @@ pub mod Laid
 pub mod Passed
 pub mod Promised
 pub mod RoundTrips
+pub mod SpaceAndPackets
 pub mod Weaker
 pub mod calls

@@ -8,8 +8,7 @@ use lib.Dec.{eqb}
 use borrow.Author.Tests.{ne-eqb}
 use Rattle.octets.specs.Basics.{pick, Row, first}
 use Rattle.octets.proofs.Choices.{refusal-kept}
-use Rattle.demands.specs.Promises.{Left, Contract, as-read, Gives, Is, Promised}
-use Rattle.demands.specs.calls.Frames.{Writes}
+use Rattle.demands.specs.Promises.{Left, Contract, as-read, Gives, Is, Promised, Writes}
 
 -- what a call is given: what is done where no row holds, and the refusal where one does
 abbrev pub by-rows : {B : Type 0} → List Row → B → (ℕ → B) → B

@@ -8,7 +8,7 @@ use Rattle.octets.specs.Basics.{field, placed, first}
 use Rattle.octets.proofs.Numbers.{Octets}
 use Rattle.packets.specs.Wrap.{wrapped-total, wrap-rows}
 use Rattle.packets.specs.Wrap as packets
-use Rattle.space.specs.Space.{space-rows, space-reading, space-writing}
+use Rattle.space.specs.Space.{space-read-rows, space-rows, space-reading, space-writing}
 use Rattle.space.specs.declared.SpaceHeader.{SpaceHeader}
 use Rattle.frames.specs.Link.{zone-at, count-width, headers}
 use Rattle.frames.specs.Frame.{in-range, frame-rows, zone-of, count, replay, pointer, pointer-word, head}
@@ -22,6 +22,7 @@ use Rattle.bitstream.specs.declared.Reader.{Reader}
 use Rattle.extractor.specs.Statements.{SaysTheRules, SpendsInTime}
 use Rattle.demands.specs.Demand2List.{OrdersCarried, ListCarried}
 use Rattle.demands.specs.RoundTrip.{OrdersHandedOver, ListHandedOver}
+use Rattle.demands.specs.SpaceAndPackets.{SameHeader}
 
 -- fields, once for any place and width of a word: what is put in is read back there, and every field below or above it stays
 pub record Fields : Type 0 where
@@ -41,14 +42,17 @@ pub record Headers : Type 0 where
   pub again : (s : Settings) (f : List ℕ) → in-range s ≡ true → Octets f → first (frame-rows s f) ≡ 0
       → f ≡ headers (s .link) (count s f) (replay s f) (pointer-word (pointer s f)) ++ zone-of s f
 
--- a data unit that is wrapped, and a space packet's header that is written, are read back; and that header the other way round
+-- a data unit that is wrapped, and a space packet's header that is written, are read back; that header the other way round; and it says the same to
+-- the one header reader
 pub record Packets : Type 0 where
   pub wrapped : (limit protocol extension : ℕ) (unit output : List ℕ)
       → first (wrap-rows limit protocol extension (length unit) (wrapped-total protocol (length unit)) (length output)) ≡ 0
       → packets.RoundTrip limit protocol extension unit output
   pub space : (h : SpaceHeader) (output : List ℕ) → first (space-rows h (length output)) ≡ 0
       → space-reading (space-writing h output .output) ≡ record { accepted = true; refusal = 0; header = h }
-  pub space-again : (os : List ℕ) → Octets os → 6 ≤ length os → space-writing (space-reading os .header) os ≡ record { refusal = 0; output = os }
+  pub space-again : (os : List ℕ) → Octets os → first (space-read-rows os) ≡ 0
+      → space-writing (space-reading os .header) os ≡ record { refusal = 0; output = os }
+  pub space-same : SameHeader
 
 -- bits that are written are read back, and a frame that is read has its bits where the promise says
 pub record Bits : Type 0 where

@@ -6,6 +6,7 @@ pub mod Demand2List
 pub mod Demand3
 pub mod Promises
 pub mod RoundTrip
+pub mod SpaceAndPackets
 pub mod Table
 pub mod Weaker
 pub mod calls

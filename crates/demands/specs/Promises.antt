@@ -6,7 +6,8 @@ use Prim.Native.Nat.{ℕ}
 use mathlib.Core.Path.{_≡_}
 use mathlib.Core.List.{List}
 use denote.Ref.{RefT}
-use Rattle.octets.specs.Basics.{Row, first}
+use lib.Dec.{eqb}
+use Rattle.octets.specs.Basics.{pick, Row, first}
 
 -- a slice that is lent: where it lies, the name that it is known by, and its elements, which `now` reads
 abbrev pub Slice : Type 0
@@ -50,3 +51,8 @@ pub record Refuses {O B : Type 0} (c : Contract O) (rows : List Row) (says : O �
 pub record Promised {O B : Type 0} (c : Contract O) (given : B) (rows : List Row) (says : O → B) (number : B → ℕ) (refused : ℕ → B) : Type 0 where
   pub refuses : Refuses c rows says number refused
   pub gives : Gives c says given
+
+-- a call that answers its refusal alone, and writes new octets over the old where there is none
+abbrev pub Writes : Contract (Left ℕ) → List Row → List ℕ → List ℕ → Type 0
+Writes c rows new old =
+    Promised c (record { answer = first rows; lent = pick (eqb (first rows) 0) new old }) rows (λ o. o) (λ o. o .answer) (λ n. record { answer = n; lent = old })

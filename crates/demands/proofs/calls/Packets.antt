@@ -16,7 +16,7 @@ use Rattle.packets.specs.declared.wrapping.Wrapped.{Wrapped}
 use Rattle.packets.proofs.Determined.{header-determined, wrapped-determined, unwrapped-determined}
 use Rattle.demands.specs.Promises.{Left}
 use Rattle.demands.specs.calls.Packets.{OfPackets}
-use Rattle.demands.proofs.Promised.{by-rows, promised, left-same, exactly}
+use Rattle.demands.proofs.Promised.{by-rows, promised, left-same, exactly, writes}
 
 -- a limit out of range is the reader's only refusal
 reading-by-row : (limit : ℕ) (os : List ℕ)
@@ -51,6 +51,7 @@ of-packets = record {
       (λ n. record { accepted = false; refusal = n; protocol = 0; extension = 0; start = 0; size = 0 }) refl refl (λ n. refl)
       (record { free = tt; gives = λ o m. m; one = λ o o′ e d. unwrapped-determined e d });
   unit-part = λ κs p u part. exactly;
+  write-idle = λ κs out at r fill. writes _ _ _;
   no-unit = λ p n. refl;
   read-header = λ κs limit os-lent.
       let os : List ℕ = now os-lent in

@@ -4,7 +4,7 @@ use mathlib.Core.List.{List}
 use lib.Dec.{ltb, eqb}
 use contract.Lifetimes.{Lfts}
 use denote.Ref.{now, at-last}
-use Rattle.octets.specs.Basics.{pick, over, Row, first}
+use Rattle.octets.specs.Basics.{over, Row}
 use Rattle.frames.specs.Link.{missing}
 use Rattle.frames.specs.Frame.{in-range, frame-length, frame-rows, heading, head, head-rows}
 use Rattle.frames.specs.BitFrame.{bits-in-range, bit-frame-length, bit-frame-rows, bit-heading, bit-head, bit-head-rows}
@@ -22,16 +22,11 @@ use Rattle.frames.proofs.bits.has_length.Reads as bits-has-length-fn
 use Rattle.frames.proofs.bits.is_short.Reads as bits-is-short-fn
 use Rattle.frames.proofs.bits.read_head.Reads as bits-read-head-fn
 use Rattle.frames.proofs.bits.write_head.Reads as bits-write-head-fn
-use Rattle.demands.specs.Promises.{Slice, Left, Contract, as-read, Is, Promised}
+use Rattle.demands.specs.Promises.{Slice, Contract, as-read, Is, Promised, Writes}
 
 -- a header that is read
 abbrev pub Reads : Contract Heading → List Row → Heading → Type 0
 Reads c rows given = Promised c given rows (λ h. h) (λ h. h .refusal) (λ n. record { refusal = n; count = 0; replay = 0; pointer = 0 })
-
--- what is written over the front of octets where it is not refused
-abbrev pub Writes : Contract (Left ℕ) → List Row → List ℕ → List ℕ → Type 0
-Writes c rows new old =
-    Promised c (record { answer = first rows; lent = pick (eqb (first rows) 0) new old }) rows (λ o. o) (λ o. o .answer) (λ n. record { answer = n; lent = old })
 
 -- ranges, lengths, the wheel, and the headers of packet frames and of bitstream frames
 pub record OfFrames : Type 0 where

@@ -1,10 +1,11 @@
 -- What the public functions of `octets` promise.
 use Prim.Native.Nat.{ℕ, _-_, min}
 use mathlib.Core.Bool.{Bool}
-use lib.ListN.{getD}
+use mathlib.Core.List.{List}
+use lib.ListN.{getD, replicate}
 use contract.Lifetimes.{Lfts}
-use denote.Ref.{now}
-use Rattle.octets.specs.Basics.{pick, field, placed, number-at}
+use denote.Ref.{now, at-last}
+use Rattle.octets.specs.Basics.{pick, field, placed, number-at, octets, fits, laid, part-fits, laid-part}
 use Rattle.octets.specs.declared.Place.{Place}
 use Rattle.octets.proofs.field.Reads as field-fn
 use Rattle.octets.proofs.placed.Reads as placed-fn
@@ -13,12 +14,19 @@ use Rattle.octets.proofs.number2.Reads as number2-fn
 use Rattle.octets.proofs.number3.Reads as number3-fn
 use Rattle.octets.proofs.number4.Reads as number4-fn
 use Rattle.octets.proofs.number6.Reads as number6-fn
+use Rattle.octets.proofs.put.Reads as put-fn
+use Rattle.octets.proofs.lay.Reads as lay-fn
+use Rattle.octets.proofs.fill.Reads as fill-fn
 use Rattle.octets.proofs.refused.Reads as refused-fn
 use Rattle.octets.proofs.least.Reads as least-fn
 use Rattle.octets.proofs.less.Reads as less-fn
-use Rattle.demands.specs.Promises.{Slice, as-read, Is}
+use Rattle.demands.specs.Promises.{Slice, Left, Contract, as-read, Is}
 
--- fields of a word, numbers in octets, and the small choices that other crates make
+-- a call that writes over a part of its buffer, or answers 2 and writes nothing where there is no room
+abbrev pub Lays : Contract (Left ℕ) → Bool → List ℕ → Type 0
+Lays c room written = Is c (record { answer = pick room 0 2; lent = written })
+
+-- fields of a word, numbers in octets, octets written over others, and the small choices that other crates make
 pub record OfOctets : Type 0 where
   pub field : (word : ℕ) (at : Place)
       → Is (as-read (field-fn.Pre tt (word, (at, tt))) (λ r. field-fn.Post tt (word, (at, tt)) r (word, (at, tt))))
@@ -36,6 +44,18 @@ pub record OfOctets : Type 0 where
       → Is (as-read (number4-fn.Pre κs (s, (at, tt))) (λ r. number4-fn.Post κs (s, (at, tt)) r (s, (at, tt)))) (number-at 4 at (now s))
   pub number6 : (κs : Lfts 1) (s : Slice) (at : ℕ)
       → Is (as-read (number6-fn.Pre κs (s, (at, tt))) (λ r. number6-fn.Post κs (s, (at, tt)) r (s, (at, tt)))) (number-at 6 at (now s))
+  pub put : (κs : Lfts 1) (buf : Slice) (at k n : ℕ)
+      → Lays (as-read (put-fn.Pre κs (buf, (at, (k, (n, tt)))))
+      (λ o. put-fn.Post κs (buf, (at, (k, (n, tt)))) (o .answer) (at-last buf (o .lent), (at, (k, (n, tt))))))
+      (fits (now buf) at k) (laid (now buf) at (octets k n))
+  pub lay : (κs : Lfts 2) (buf : Slice) (at : ℕ) (src : Slice) (from to : ℕ)
+      → Lays (as-read (lay-fn.Pre κs (buf, (at, (src, (from, (to, tt))))))
+      (λ o. lay-fn.Post κs (buf, (at, (src, (from, (to, tt))))) (o .answer) (at-last buf (o .lent), (at, (src, (from, (to, tt)))))))
+      (part-fits (now buf) at from to (now src)) (laid-part (now buf) at from to (now src))
+  pub fill : (κs : Lfts 1) (buf : Slice) (at n octet : ℕ)
+      → Lays (as-read (fill-fn.Pre κs (buf, (at, (n, (octet, tt)))))
+      (λ o. fill-fn.Post κs (buf, (at, (n, (octet, tt)))) (o .answer) (at-last buf (o .lent), (at, (n, (octet, tt))))))
+      (fits (now buf) at n) (laid (now buf) at (replicate n octet))
   pub refused : (holds : Bool) (refusal below : ℕ)
       → Is (as-read (refused-fn.Pre tt (holds, (refusal, (below, tt)))) (λ r. refused-fn.Post tt (holds, (refusal, (below, tt))) r (holds, (refusal, (below, tt)))))
       (pick holds refusal below)

@@ -1,15 +1,16 @@
 -- What the public functions of `packets` promise.
-use Prim.Native.Nat.{ℕ}
+use Prim.Native.Nat.{ℕ, _-_}
 use mathlib.Core.Path.{_≡_}
 use mathlib.Core.List.{List, [], _∷_}
 use mathlib.Core.Bool.{false, not}
 use lib.ListN.{length}
 use contract.Lifetimes.{Lfts}
 use denote.Ref.{now, at-last}
-use Rattle.octets.specs.Basics.{and, row}
+use Rattle.octets.specs.Basics.{and, over, row}
 use Rattle.packets.specs.Packet.{limit-in-range, well-formed}
 use Rattle.packets.specs.Header.{bare, reading}
 use Rattle.packets.specs.Header as header
+use Rattle.packets.specs.Idle.{idle-packet, idle-packet-rows}
 use Rattle.packets.specs.Wrap.{wrapped-total, wrap-rows, wrapping, wraps, unwrap-rows, unwrapping, unwraps, unit-part}
 use Rattle.packets.specs.declared.Header.{Header}
 use Rattle.packets.specs.declared.wrapping.Wrapped.{Wrapped}
@@ -17,16 +18,17 @@ use Rattle.packets.specs.declared.wrapping.Unwrapped.{Unwrapped}
 use Rattle.packets.proofs.wrap.Reads as wrap-fn
 use Rattle.packets.proofs.unwrap.Reads as unwrap-fn
 use Rattle.packets.proofs.unit_part.Reads as unit-part-fn
+use Rattle.packets.proofs.write_idle.Reads as write-idle-fn
 use Rattle.packets.proofs.read_header.Reads as read-header-fn
 use Rattle.packets.proofs.well_formed.Reads as well-formed-fn
-use Rattle.demands.specs.Promises.{Slice, Left, Contract, as-read, Is, Promised}
+use Rattle.demands.specs.Promises.{Slice, Left, Contract, as-read, Is, Promised, Writes}
 
 abbrev pub wrap-contract : (κs : Lfts 2) (limit protocol extension : ℕ) (unit out : Slice) → Contract (Left Wrapped)
 wrap-contract κs limit protocol extension unit out =
     as-read (wrap-fn.Pre κs (limit, (protocol, (extension, (unit, (out, tt))))))
     (λ o. wrap-fn.Post κs (limit, (protocol, (extension, (unit, (out, tt))))) (o .answer) (limit, (protocol, (extension, (unit, (at-last out (o .lent), tt))))))
 
--- the header reader, well-formed, wrapping, and unwrapping with the part that is handed back, empty where it is refused
+-- the header reader, well-formed, wrapping, the idle packet, and unwrapping with the part that is handed back, empty where it is refused
 pub record OfPackets : Type 0 where
   pub read-header : (κs : Lfts 1) (limit : ℕ) (os : Slice)
       → Promised (as-read (read-header-fn.Pre κs (limit, (os, tt))) (λ (r : Header). read-header-fn.Post κs (limit, (os, tt)) r (limit, (os, tt))))
@@ -42,6 +44,10 @@ pub record OfPackets : Type 0 where
       → Promised (as-read (unwrap-fn.Pre κs (limit, (p, tt))) (λ (r : Unwrapped). unwrap-fn.Post κs (limit, (p, tt)) r (limit, (p, tt))))
       (unwrapping limit (now p)) (unwrap-rows limit (now p)) unwraps (λ a. a .refusal)
       (λ n. record { accepted = false; refusal = n; protocol = 0; extension = 0; start = 0; size = 0 })
+  pub write-idle : (κs : Lfts 1) (out : Slice) (at r fill : ℕ)
+      → Writes (as-read (write-idle-fn.Pre κs (out, (at, (r, (fill, tt)))))
+      (λ o. write-idle-fn.Post κs (out, (at, (r, (fill, tt)))) (o .answer) (at-last out (o .lent), (at, (r, (fill, tt))))))
+      (idle-packet-rows r (length (now out) - at)) (over (now out) at (idle-packet fill r)) (now out)
   pub no-unit : (p : List ℕ) (n : ℕ) → unit-part p (Unwrapped.Refused n) ≡ []
   -- a part that is handed back lies somewhere: an outcome is its octets
   pub unit-part : (κs : Lfts 1) (p : Slice) (u : Unwrapped) (part : Slice)

@@ -1,12 +1,9 @@
 -- What the public functions of `space` promise.
 use Prim.Native.Nat.{ℕ}
-use mathlib.Core.List.{[], _∷_}
 use lib.ListN.{length}
-use lib.Dec.{ltb}
 use contract.Lifetimes.{Lfts}
 use denote.Ref.{now, at-last}
-use Rattle.octets.specs.Basics.{row}
-use Rattle.space.specs.Space.{space-reading, space-reads, space-rows, space-writing, space-writes}
+use Rattle.space.specs.Space.{space-read-rows, space-reading, space-reads, space-rows, space-writing, space-writes}
 use Rattle.space.specs.declared.SpaceHeader.{SpaceHeader}
 use Rattle.space.specs.declared.SpaceRead.{SpaceRead}
 use Rattle.space.proofs.read_space.Reads as read-space-fn
@@ -17,7 +14,7 @@ use Rattle.demands.specs.Promises.{Slice, Left, as-read, Promised}
 pub record OfSpace : Type 0 where
   pub read-space : (κs : Lfts 1) (os : Slice)
       → Promised (as-read (read-space-fn.Pre κs (os, tt)) (λ (r : SpaceRead). read-space-fn.Post κs (os, tt) r (os, tt)))
-      (space-reading (now os)) (row 2 (ltb (length (now os)) 6) ∷ []) space-reads (λ a. a .refusal) (λ n. space-reads (SpaceRead.Refused n))
+      (space-reading (now os)) (space-read-rows (now os)) space-reads (λ a. a .refusal) (λ n. space-reads (SpaceRead.Refused n))
   pub write-space : (κs : Lfts 1) (h : SpaceHeader) (out : Slice)
       → Promised (as-read (write-space-fn.Pre κs (h, (out, tt))) (λ (o : Left ℕ). write-space-fn.Post κs (h, (out, tt)) (o .answer) (h, (at-last out (o .lent), tt))))
       (space-writing h (now out)) (space-rows h (length (now out))) (λ o. space-writes (o .answer) (o .lent)) (λ a. a .refusal)

@@ -1,0 +1,81 @@
+-- A space packet's header says the same to both readers: its fields stand in the same octets.
+-- Assumes nothing.
+use Prim.Native.Nat.{ℕ, _+_, _*_, _/_, _%_, _^_, _≤_, _<_}
+use mathlib.Core.Path.{_≡_, refl, sym, ap, _∙_}
+use mathlib.Core.List.{List}
+use mathlib.Core.Bool.{Bool, true, false}
+use native.Mathlib.Nat.{div-one}
+use native.Mathlib.Omega.{arith}
+use lib.Arith.{digits-div, digits-mod}
+use lib.Pow.{shr-shr}
+use lib.ListN.{length, take, drop, getD}
+use lib.Dec.{ltb, eqb}
+use borrow.Author.Tests.{le-ltb}
+use Rattle.octets.specs.Basics.{pick, number, number-at, field}
+use Rattle.octets.proofs.Numbers.{Octets, run-lt, run-join, number-within, one-octet}
+use Rattle.packets.specs.Packet.{damaged, whole, look, counted, sized, packet-version, apid, key-of, is-idle, size-of}
+use Rattle.packets.specs.Header.{bare, told, reading}
+use Rattle.packets.proofs.Looks.{look-space}
+use Rattle.space.specs.Space.{space-fields, space-reading}
+use Rattle.space.proofs.Spaces.{space-accepted}
+use Rattle.demands.specs.SpaceAndPackets.{as-packet, SameHeader}
+
+-- a word of two parts: a field of the upper part, and the whole lower part
+module _ (high low width : ℕ) (short : low < 2 ^ width) where
+  upper : (place size : ℕ) → field (high * 2 ^ width + low) (width + place) size ≡ field high place size
+  unfolding field
+  upper place size =
+      ap (λ (n : ℕ). n % 2 ^ size) (sym (shr-shr (high * 2 ^ width + low) width place) ∙ ap (λ (n : ℕ). n / 2 ^ place) (digits-div high short))
+
+  lower : field (high * 2 ^ width + low) 0 width ≡ low
+  unfolding field
+  lower = ap (λ (n : ℕ). n % 2 ^ width) (div-one (high * 2 ^ width + low)) ∙ digits-mod high short
+
+-- the fields of the six octets' word, and what the header reader takes from single octets
+module _ (os : List ℕ) (o : Octets os) (k : 6 ≤ length os) where
+  abbrev word : ℕ
+  word = number-at 6 0 os
+
+  cut : (place width : ℕ) {n : ℕ} → number (take 6 os) ≡ n → field word place width ≡ field n place width
+  cut place width e = ap (λ (n : ℕ). field n place width) (number-within 6 0 os k ∙ e)
+
+  same-version : field word 45 3 ≡ packet-version (getD os 0 0)
+  same-version =
+      cut 45 3 (run-join os 0 1 5 k)
+      ∙ upper (number (take 1 os)) (number (take 5 (drop 1 os))) 40 (run-lt os 1 5 o k) 5 3
+      ∙ ap (λ (n : ℕ). field n 5 3) (one-octet os 0 (omega arith))
+
+  same-apid : field word 32 11 ≡ apid os
+  same-apid =
+      cut 32 11 (run-join os 0 2 4 k)
+      ∙ upper (number (take 2 os)) (number (take 4 (drop 2 os))) 32 (run-lt os 2 4 o k) 0 11
+
+  same-length : field word 0 16 ≡ number-at 2 4 os
+  same-length =
+      cut 0 16 (run-join os 0 4 2 k)
+      ∙ lower (number (take 4 os)) (number (take 2 (drop 4 os))) 16 (run-lt os 4 2 o k)
+      ∙ sym (number-within 2 4 os k)
+
+-- what is told of a space packet that is seen to have so many octets
+module _ (os : List ℕ) (total : ℕ) (v : packet-version (getD os 0 0) ≡ 0) where
+  tells : (above : Bool)
+      → told os (pick above damaged (whole total))
+      ≡ pick above (bare 0 2) (record { refusal = 0; outcome = 3; version = 0; key = apid os; idle = eqb (apid os) 2047; size = 6; total = total })
+  unfolding told key-of is-idle size-of
+  tells true = refl
+  tells false = rw v refl
+
+-- six octets are there, and a total is 7 at least
+sees : (limit len stated : ℕ) → 6 ≤ len → counted limit len 6 (stated + 7) ≡ pick (ltb limit (stated + 7)) damaged (whole (stated + 7))
+unfolding counted sized
+sees limit len stated k = rw (le-ltb len 6 k, le-ltb (stated + 7) 6 (omega arith)) refl
+
+pub same-header : SameHeader
+unfolding reading space-reading space-fields as-packet
+same-header limit os o ok accepted =
+    let a = space-accepted os accepted in
+    let v : packet-version (getD os 0 0) ≡ 0 = sym (same-version os o (a .0)) ∙ a .1 in
+    let total : ℕ = number-at 2 4 os + 7 in
+    let seen : look limit os ≡ pick (ltb limit total) damaged (whole total) =
+    look-space limit os (λ none. omega arith) v ∙ sees limit (length os) (number-at 2 4 os) (a .0) in
+    rw (ok, accepted, same-apid os o (a .0), same-length os o (a .0)) (ap (told os) seen ∙ tells os total v (ltb limit total))
