@@ -12,10 +12,10 @@ use lib.Seq.{take-take, take-add, drop-cons, drop-drop, getD-take, getD-drop}
 use Rattle.octets.specs.Basics.{pick, part}
 use Rattle.octets.proofs.Written.{length-run}
 use Rattle.frames.specs.declared.Settings.{Settings}
-use Rattle.runfile.specs.Steps.{body-length, most-body, taken, closed}
+use Rattle.runfile.specs.Steps.{body-length, taken, closed}
 use Rattle.runfile.specs.declared.Reader.{Reader}
 use Rattle.runfile.specs.declared.Reader.the-variants.{Start, Running, Ended, Bad}
-use Rattle.runfile.proofs.Bounds.{body-most}
+use Rattle.runfile.proofs.Bounds.{most-body, body-most}
 use Rattle.runfile.proofs.Ends.{left, taken-left}
 use Rattle.aosread.specs.Input.{Between, Inside, unread, StandFirst}
 use Rattle.aosread.specs.declared.input.Unread.{Unread}

@@ -1,18 +1,19 @@
--- What settings that a setup can give are bounded by, and the bodies under them.
+-- What settings that a setup can give are bounded by, the readers that a file can lead to, and the bodies under them.
 -- Assumes nothing.
 use mathlib.Core.Path.{_≡_, refl}
+use mathlib.Core.List.{List}
 use mathlib.Core.Bool.{Bool, true, false}
-use Prim.Native.Nat.{ℕ, _≤_, _<_}
+use Prim.Native.Nat.{ℕ, _≤_}
 use native.Mathlib.Omega.{arith}
-use lib.Dec.{eqb}
-use borrow.Author.Tests.{leb-true, ltb-true}
+use lib.Dec.{ltb, eqb}
+use borrow.Author.Tests.{le-leb, leb-true, eq-eqb, eqb-true}
 use Rattle.octets.specs.Basics.{pick, and}
 use Rattle.octets.proofs.Choices.{and-true}
 use Rattle.frames.specs.Frame.{frame-length, most-frames}
 use Rattle.frames.specs.declared.Settings.{Settings}
 use Rattle.frames.proofs.Settled.{Settled, settled}
-use Rattle.runfile.specs.RunFile.{fits}
-use Rattle.runfile.specs.Steps.{may-follow, body-length, most-body}
+use Rattle.runfile.specs.RunFile.{setup-of, fits}
+use Rattle.runfile.specs.Steps.{reachable, body-length}
 use Rattle.runfile.specs.declared.Reader.{Reader}
 use Rattle.runfile.specs.declared.Reader.the-variants.{Start, Running, Ended, Bad}
 
@@ -26,15 +27,35 @@ fitting s e =
     let a = and-true _ _ e in
     record { in-numbers = settled s (a .0); limit-here = leb-true _ _ (a .1) }
 
+-- no record has a longer body
+abbrev pub most-body : ℕ
+most-body = 2054
+
 pub frame-most : (s : Settings) → fits s ≡ true → frame-length s ≤ most-body
 unfolding frame-length
 frame-most s e = omega (arith, fitting s e .in-numbers .zone-most)
 
-pub followed : (s : Settings) (n : ℕ) → may-follow s n ≡ true → (fits s ≡ true) × (n < most-frames)
-unfolding may-follow
-followed s n e =
-    let a = and-true _ _ e in
-    (a .0, ltb-true _ _ (a .1))
+-- what a reader after n frames has where a file can lead to it
+pub record Standing (s : Settings) (n : ℕ) : Type 0 where
+  pub settings-fit : fits s ≡ true
+  pub no-fill : s .fill ≡ 0
+  pub frames-most : n ≤ most-frames
+
+pub standing : (s : Settings) (n : ℕ) → reachable (Running s n) ≡ true → Standing s n
+unfolding reachable
+standing s n e =
+    let a = and-true (fits s) _ e in
+    let b = and-true (eqb (s .fill) 0) _ (a .1) in
+    record { settings-fit = a .0; no-fill = eqb-true _ _ (b .0); frames-most = leb-true _ _ (b .1) }
+
+pub running : (s : Settings) → fits s ≡ true → s .fill ≡ 0 → (n : ℕ) → n ≤ most-frames → reachable (Running s n) ≡ true
+unfolding reachable
+running s fit clear n few = rw (fit, eq-eqb (s .fill) 0 clear, le-leb n most-frames few) refl
+
+-- a setup says nothing of a fill octet
+pub setup-no-fill : (b : List ℕ) → setup-of b .fill ≡ 0
+unfolding setup-of
+setup-no-fill b = refl
 
 pick-le : (t : Bool) {a : ℕ} → (t ≡ true → a ≤ most-body) → pick t a 0 ≤ most-body
 pick-le true h = h refl
@@ -44,6 +65,7 @@ pub body-most : (r : Reader) (kind : ℕ) → body-length r kind ≤ most-body
 unfolding body-length
 body-most Start kind = pick-le (eqb kind 1) (λ t. omega arith)
 body-most (Running s n) kind =
-    pick-le (and (eqb kind 2) (may-follow s n)) (λ t. frame-most s (followed s n (and-true (eqb kind 2) _ t .1) .0))
+    pick-le (and (reachable (Running s n)) (and (eqb kind 2) (ltb n most-frames)))
+    (λ t. frame-most s (standing s n (and-true (reachable (Running s n)) _ t .0) .settings-fit))
 body-most (Ended n) kind = omega arith
 body-most (Bad n) kind = omega arith

@@ -20,7 +20,7 @@ use Rattle.runfile.proofs.Bounds.{fitting}
 
 -- ---- written, then read
 
-setup-back : (s : Settings) → fits s ≡ true → s .fill ≡ 0 → setup-of (setup-octets s) ≡ s
+pub setup-back : (s : Settings) → fits s ≡ true → s .fill ≡ 0 → setup-of (setup-octets s) ≡ s
 unfolding setup-of setup-octets octets number-at
 setup-back s fit clear =
     let b = fitting s fit in

@@ -1,2 +1,3 @@
 pub mod RunFile
 pub mod Steps
+pub mod Statements

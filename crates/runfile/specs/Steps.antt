@@ -1,48 +1,59 @@
 -- The reader of a run file, record by record, and what is heard of a file that is handed to it so.
 use Prim.Native.Nat.{ℕ, zero, suc, _+_}
 use mathlib.Core.List.{List, [], _∷_}
-use mathlib.Core.Bool.{Bool}
+use mathlib.Core.Bool.{Bool, true, not}
 use mathlib.Core.Option.{Option, none, some}
 use lib.ListN.{length, take, drop}
-use lib.Dec.{ltb, eqb}
+use lib.Dec.{leb, ltb, eqb}
 use Rattle.octets.specs.Basics.{pick, and}
 use Rattle.frames.specs.Frame.{frame-length, most-frames}
-use Rattle.frames.specs.declared.Settings.{Settings}
 use Rattle.runfile.specs.RunFile.{setup-length, setup-of, fits, Reading, stop, with-setup, with-frame}
 use Rattle.runfile.specs.declared.Reader.{Reader}
 use Rattle.runfile.specs.declared.Reader.the-variants.{Start, Running, Ended, Bad}
 
--- whether a frame may come after n others, under settings that a setup can give
-unfoldable pub may-follow : Settings → ℕ → Bool
-may-follow s n = and (fits s) (ltb n most-frames)
+-- the number of the record that comes next, from 0, or of the one that was bad
+unfoldable pub next-record : Reader → ℕ
+next-record Start = 0
+next-record (Running s n) = n + 1
+next-record (Ended n) = n + 2
+next-record (Bad n) = n
+
+-- the record of that number is bad
+abbrev pub bad : Reader → Reader
+bad r = Bad (next-record r)
+
+-- whether a file can lead to a reader: settings that a setup can give, no more frames than a run may have, and a bad record no later
+-- than the first behind the end of the longest run
+unfoldable pub reachable : Reader → Bool
+reachable Start = true
+reachable (Running s n) = and (fits s) (and (eqb (s .fill) 0) (leb n most-frames))
+reachable (Ended n) = leb n most-frames
+reachable (Bad n) = leb n (most-frames + 2)
 
 -- so many octets of body the next record has by its kind; none where it is bad
 unfoldable pub body-length : Reader → ℕ → ℕ
 body-length Start kind = pick (eqb kind 1) setup-length 0
-body-length (Running s n) kind = pick (and (eqb kind 2) (may-follow s n)) (frame-length s) 0
+body-length (Running s n) kind = pick (and (reachable (Running s n)) (and (eqb kind 2) (ltb n most-frames))) (frame-length s) 0
 body-length (Ended n) kind = 0
 body-length (Bad n) kind = 0
-
--- no record has more of them
-abbrev pub most-body : ℕ
-most-body = 2054
 
 -- the reader after a record of this kind and this body
 unfoldable pub taken : Reader → ℕ → List ℕ → Reader
 taken Start kind body =
-    pick (and (eqb kind 1) (and (eqb (length body) setup-length) (fits (setup-of body)))) (Running (setup-of body) 0) (Bad 0)
+    pick (and (eqb kind 1) (and (eqb (length body) setup-length) (fits (setup-of body)))) (Running (setup-of body) 0) (bad Start)
 taken (Running s n) kind body =
-    pick (and (eqb kind 2) (and (may-follow s n) (eqb (length body) (frame-length s)))) (Running s (n + 1))
-    (pick (and (eqb kind 3) (eqb (length body) 0)) (Ended n) (Bad (n + 1)))
-taken (Ended n) kind body = Bad (n + 2)
-taken (Bad n) kind body = Bad n
+    pick (not (reachable (Running s n))) (bad (Running s n))
+    (pick (and (eqb kind 2) (and (ltb n most-frames) (eqb (length body) (frame-length s)))) (Running s (n + 1))
+    (pick (and (eqb kind 3) (eqb (length body) 0)) (Ended n) (bad (Running s n))))
+taken (Ended n) kind body = bad (Ended n)
+taken (Bad n) kind body = bad (Bad n)
 
 -- the reader when the input has ended: a run that has had its end stays, any other is cut
 unfoldable pub closed : Reader → Reader
-closed Start = Bad 0
-closed (Running s n) = Bad (n + 1)
-closed (Ended n) = Ended n
-closed (Bad n) = Bad n
+closed Start = bad Start
+closed (Running s n) = bad (Running s n)
+closed (Ended n) = pick (reachable (Ended n)) (Ended n) (bad (Ended n))
+closed (Bad n) = bad (Bad n)
 
 -- the number of the record that was bad, if one was
 unfoldable pub bad-of : Reader → Option ℕ

@@ -3,7 +3,7 @@ ghost use mathlib.Core.Path.{_≡_};
 ghost use mathlib.Core.Bool.{true};
 ghost use Rattle.frames.specs.Frame.{frame-length};
 ghost use Rattle.runfile.specs.RunFile.{setup-of, fits};
-ghost use Rattle.runfile.specs.Steps.{may-follow, body-length, taken, closed};
+ghost use Rattle.runfile.specs.Steps.{next-record, bad, reachable, body-length, taken, closed};
 use frames::Link;
 use frames::MOST_FRAMES;
 use frames::Settings;
@@ -26,9 +26,6 @@ pub const SETUP: u8 = 1;
 pub const FRAME: u8 = 2;
 
 pub const END: u8 = 3;
-
-// No record has a longer body.
-pub const MOST_BODY: usize = 2054;
 
 // The octets of a setup's body.
 const SETUP_LENGTH: usize = 7;
@@ -58,11 +55,38 @@ fn fits(s: Settings) -> bool
     frames::in_range(s) & (s.limit <= MOST_LIMIT)
 }
 
-// Whether a frame may come after so many others.
-fn may_follow(s: Settings, frames: u32) -> bool
-    ensures { λ r. ⌜ r ≡ may-follow s frames ⌝ }
+// The number of the record that comes next, or of the one that was bad.
+fn next_record(r: Reader) -> u64
+    ensures { λ n. ⌜ n ≡ next-record r ⌝ }
 {
-    fits(s) & (frames < MOST_FRAMES)
+    match r {
+        Reader::Start => 0,
+        Reader::Running { frames, .. } => frames as u64 + 1,
+        Reader::Ended { frames } => frames as u64 + 2,
+        Reader::Bad { record } => record,
+    }
+}
+
+fn bad(r: Reader) -> Reader
+    ensures { λ a. ⌜ a ≡ bad r ⌝ }
+{
+    Reader::Bad {
+        record: next_record(r),
+    }
+}
+
+// Whether a file can lead to this reader.
+fn reachable(r: Reader) -> bool
+    ensures { λ t. ⌜ t ≡ reachable r ⌝ }
+{
+    match r {
+        Reader::Start => true,
+        Reader::Running { settings, frames } => {
+            fits(settings) & ((settings.fill == 0) & (frames <= MOST_FRAMES))
+        }
+        Reader::Ended { frames } => frames <= MOST_FRAMES,
+        Reader::Bad { record } => record <= MOST_FRAMES as u64 + 2,
+    }
 }
 
 fn frame_length(s: Settings) -> usize
@@ -76,17 +100,20 @@ fn frame_length(s: Settings) -> usize
 pub fn body_length(r: Reader, kind: u8) -> usize
     ensures { λ n. ⌜ n ≡ body-length r kind ⌝ }
 {
+    if !reachable(r) {
+        return 0;
+    }
     match r {
         Reader::Start => if kind == SETUP { SETUP_LENGTH } else { 0 },
         Reader::Running { settings, frames } => {
-            if (kind == FRAME) & may_follow(settings, frames) {
+            if (kind == FRAME) & (frames < MOST_FRAMES) {
                 frame_length(settings)
             } else {
                 0
             }
         }
-        Reader::Ended { frames: _ } => 0,
-        Reader::Bad { record: _ } => 0,
+        Reader::Ended { .. } => 0,
+        Reader::Bad { .. } => 0,
     }
 }
 
@@ -100,15 +127,16 @@ fn take_setup(kind: u8, body: &[u8]) -> Reader
             frames: 0,
         }
     } else {
-        Reader::Bad { record: 0 }
+        bad(Reader::Start)
     }
 }
 
 // A frame or the end, after so many frames.
 fn take_next(s: Settings, frames: u32, kind: u8, body: &[u8]) -> Reader
+    requires { ⌜ reachable (Reader.Running s frames) ≡ true ⌝ }
     ensures { λ r. ⌜ r ≡ taken (Reader.Running s frames) kind (now (body .entry)) ⌝ }
 {
-    if (kind == FRAME) & (may_follow(s, frames) & frames::has_length(s, body.len())) {
+    if (kind == FRAME) & ((frames < MOST_FRAMES) & frames::has_length(s, body.len())) {
         return Reader::Running {
             settings: s,
             frames: frames + 1,
@@ -117,22 +145,24 @@ fn take_next(s: Settings, frames: u32, kind: u8, body: &[u8]) -> Reader
     if (kind == END) & (body.len() == 0) {
         return Reader::Ended { frames };
     }
-    Reader::Bad {
-        record: frames as u64 + 1,
-    }
+    bad(Reader::Running {
+        settings: s,
+        frames,
+    })
 }
 
 // The reader after a record of this kind and this body, which is shorter than its length where the input is cut.
 pub fn take(r: Reader, kind: u8, body: &[u8]) -> Reader
     ensures { λ a. ⌜ a ≡ taken r kind (now (body .entry)) ⌝ }
 {
+    if !reachable(r) {
+        return bad(r);
+    }
     match r {
         Reader::Start => take_setup(kind, body),
         Reader::Running { settings, frames } => take_next(settings, frames, kind, body),
-        Reader::Ended { frames } => Reader::Bad {
-            record: frames as u64 + 2,
-        },
-        Reader::Bad { record } => Reader::Bad { record },
+        Reader::Ended { .. } => bad(r),
+        Reader::Bad { .. } => bad(r),
     }
 }
 
@@ -140,15 +170,13 @@ pub fn take(r: Reader, kind: u8, body: &[u8]) -> Reader
 pub fn close(r: Reader) -> Reader
     ensures { λ a. ⌜ a ≡ closed r ⌝ }
 {
+    if !reachable(r) {
+        return bad(r);
+    }
     match r {
-        Reader::Start => Reader::Bad { record: 0 },
-        Reader::Running {
-            settings: _,
-            frames,
-        } => Reader::Bad {
-            record: frames as u64 + 1,
-        },
-        Reader::Ended { frames } => Reader::Ended { frames },
-        Reader::Bad { record } => Reader::Bad { record },
+        Reader::Start => bad(r),
+        Reader::Running { .. } => bad(r),
+        Reader::Ended { .. } => r,
+        Reader::Bad { .. } => bad(r),
     }
 }

@@ -12,7 +12,9 @@ returns c = rw (← c .before .before .setup-of .ensures, ← c .before .fits2 .
 
 returns-2 : tie.Need-returns-2
 unfolding taken
-returns-2 c = rw (← c .before .before .setup-of .ensures, ← c .before .fits2 .ensures, c .if1 .left) refl
+returns-2 c =
+    let e = c .before .before in
+    rw (← e .before .setup-of .ensures, ← e .fits2 .ensures, c .before .if1 .left) (c .bad .ensures)
 
 pub take-setup-spec : {M : Type 1} → statement M
-take-setup-spec = tie.close (tie.spec (λ c κs. search needs) (λ c κs. search needs) returns returns-2)
+take-setup-spec = tie.close (tie.spec (λ c κs. search needs) (λ c κs. search needs) (λ c κs. search needs) returns returns-2)
