@@ -98,8 +98,8 @@ pub(crate) fn packet(out: &mut [u8], at: usize, h: Header) -> usize
             kind,
             key,
             idle,
-            size: _,
             total,
+            ..
         } => {
             if idle {
                 return last(out, at, b"idle ", total as u64);
@@ -109,7 +109,7 @@ pub(crate) fn packet(out: &mut [u8], at: usize, h: Header) -> usize
                 Kind::Encapsulation => two(out, at, b"encap ", key as u64, b" ", total as u64),
             }
         }
-        Header::Refused { refusal: _ } => at,
+        Header::Refused { .. } => at,
         Header::More => at,
         Header::Damaged => at,
     }
@@ -129,7 +129,7 @@ pub(crate) fn verdict(out: &mut [u8], at: usize, c: Closed) -> usize
     match c {
         Closed::Pass => put(out, at, b"pass\n"),
         Closed::Fault { at: frame } => last(out, at, b"fault ", frame as u64),
-        Closed::Refused { refusal: _ } => at,
+        Closed::Refused { .. } => at,
     }
 }
 

@@ -66,13 +66,9 @@ fn is_last(found: Found) -> bool
     ensures { λ r. ⌜ r ≡ not (goes-on found) ⌝ }
 {
     match found {
-        Found::Refused { refusal: _ } => true,
-        Found::InFrame {
-            start: _,
-            size: _,
-            idle: _,
-        } => false,
-        Found::InStore { size: _, idle: _ } => false,
+        Found::Refused { .. } => true,
+        Found::InFrame { .. } => false,
+        Found::InStore { .. } => false,
         Found::Damaged => false,
         Found::Spent => true,
     }
@@ -141,7 +137,7 @@ fn hear(
     let next = entering.next;
     let line = lines::entered(out, waiting, entered);
     let waiting = make_room(out, line);
-    if let Entered::Taken { entry: _ } = entered {
+    if let Entered::Taken { .. } = entered {
         return spend(s, next, store, frame, out, waiting);
     }
     Heard { next, waiting }
@@ -179,15 +175,12 @@ fn conclude(s: Settings, run: Run, reader: Reader, tried: &[u8], out: &mut [u8])
 {
     let waiting = run.waiting;
     match reader {
-        Reader::Ended { frames: _ } => {
+        Reader::Ended { .. } => {
             let judge = run.judge;
             lines::verdict(out, waiting, judge::close(s, judge, tried))
         }
         Reader::Bad { record } => lines::bad_record(out, waiting, record),
-        Reader::Running {
-            settings: _,
-            frames: _,
-        } => waiting,
+        Reader::Running { .. } => waiting,
         Reader::Start => waiting,
     }
 }
@@ -224,16 +217,13 @@ fn follow(
             return conclude(s, run, reader, tried, out);
         }
         match reader {
-            Reader::Running {
-                settings: _,
-                frames: _,
-            } => {
+            Reader::Running { .. } => {
                 let from = record.from;
                 let to = record.to;
                 run = frame(s, run, store, tried, &buf[from..to], out);
             }
-            Reader::Ended { frames: _ } => {}
-            Reader::Bad { record: _ } => return conclude(s, run, reader, tried, out),
+            Reader::Ended { .. } => {}
+            Reader::Bad { .. } => return conclude(s, run, reader, tried, out),
             Reader::Start => return conclude(s, run, reader, tried, out),
         }
     }
@@ -247,16 +237,13 @@ fn read_run(buf: &mut [u8], store: &mut [u8], tried: &mut [u8], out: &mut [u8]) 
     let first = input::next(buf, Unread { from: 0, to: 0 }, Reader::Start);
     let reader = first.reader;
     match reader {
-        Reader::Running {
-            settings,
-            frames: _,
-        } => {
+        Reader::Running { settings, .. } => {
             let line = lines::setup(out, 0, settings);
             let waiting = make_room(out, line);
             follow(settings, first.unread, waiting, buf, store, tried, out)
         }
         Reader::Bad { record } => lines::bad_record(out, 0, record),
-        Reader::Ended { frames: _ } => 0,
+        Reader::Ended { .. } => 0,
         Reader::Start => 0,
     }
 }
