@@ -9,6 +9,7 @@ use Rattle.demands.proofs.calls.Multiplexer.{of-multiplexer}
 use Rattle.demands.proofs.calls.Extractor.{of-extractor}
 use Rattle.demands.proofs.calls.Judge.{of-judge}
 use Rattle.demands.proofs.calls.Bitstream.{of-bitstream}
+use Rattle.demands.proofs.calls.RunFile.{of-runfile}
 
 pub demand-1 : Demand1
 demand-1 = record {
@@ -20,4 +21,5 @@ demand-1 = record {
   extractor = of-extractor;
   judge = of-judge;
   bitstream = of-bitstream;
+  runfile = of-runfile;
 }

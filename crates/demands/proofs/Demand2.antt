@@ -7,6 +7,7 @@ use Rattle.frames.proofs.Settled.{settled}
 use Rattle.frames.proofs.ReadBack.{count-read, pointer-read, frame-again}
 use Rattle.bitstream.proofs.ReadBack.{read-back, has-bits}
 use Rattle.extractor.proofs.Theorems.{says-the-rules, spends-in-time}
+use Rattle.runfile.proofs.Theorems.{reads-run-files}
 use Rattle.demands.specs.Demand2.{Demand2}
 use Rattle.demands.proofs.CarefulRuns.{run-delivers, list-carried}
 use Rattle.demands.proofs.RoundTrips.{orders-handed-over, list-handed-over}
@@ -28,4 +29,5 @@ demand-2 = record {
   list-back = list-handed-over;
   events = says-the-rules;
   in-time = spends-in-time;
+  run-files = reads-run-files;
 }

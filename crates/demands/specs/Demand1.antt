@@ -9,6 +9,7 @@ use Rattle.demands.specs.calls.Multiplexer.{OfMultiplexer}
 use Rattle.demands.specs.calls.Extractor.{OfExtractor}
 use Rattle.demands.specs.calls.Judge.{OfJudge}
 use Rattle.demands.specs.calls.Bitstream.{OfBitstream}
+use Rattle.demands.specs.calls.RunFile.{OfRunFile}
 
 pub record Demand1 : Type 0 where
   pub octets : OfOctets
@@ -19,3 +20,4 @@ pub record Demand1 : Type 0 where
   pub extractor : OfExtractor
   pub judge : OfJudge
   pub bitstream : OfBitstream
+  pub runfile : OfRunFile

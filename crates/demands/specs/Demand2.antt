@@ -20,6 +20,7 @@ use Rattle.bitstream.specs.Statements.{ReadBack, HasBits}
 use Rattle.bitstream.specs.declared.Writer.{Writer}
 use Rattle.bitstream.specs.declared.Reader.{Reader}
 use Rattle.extractor.specs.Statements.{SaysTheRules, SpendsInTime}
+use Rattle.runfile.specs.Statements.{ReadsRunFiles}
 use Rattle.demands.specs.Demand2List.{OrdersCarried, ListCarried}
 use Rattle.demands.specs.RoundTrip.{OrdersHandedOver, ListHandedOver}
 use Rattle.demands.specs.SpaceAndPackets.{SameHeader}
@@ -61,7 +62,7 @@ pub record Bits : Type 0 where
       → ReadBack s x (w .count) n bits (take (bit-frame-length s) (written s w bits n buffer .frame))
   pub read-has : (s : BitSettings) (x : Reader) (f : List ℕ) → Octets f → reading s x f .refusal ≡ 0 → HasBits s (reading s x f .bits) f
 
--- and with these the list, carried and handed over, every event of the extractor, and how soon a frame is spent
+-- and with these the list, carried and handed over, every event of the extractor, how soon a frame is spent, and run files
 pub record Demand2 : Type 0 where
   pub fields : Fields
   pub headers-read : Headers
@@ -73,3 +74,4 @@ pub record Demand2 : Type 0 where
   pub list-back : ListHandedOver
   pub events : SaysTheRules
   pub in-time : SpendsInTime
+  pub run-files : ReadsRunFiles

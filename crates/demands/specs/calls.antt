@@ -6,3 +6,4 @@ pub mod Multiplexer
 pub mod Extractor
 pub mod Judge
 pub mod Bitstream
+pub mod RunFile
