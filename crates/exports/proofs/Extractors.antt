@@ -15,13 +15,13 @@ use Rattle.exports.specs.Channel.{short, settings-of}
 use Rattle.exports.specs.Extract.{extractor-of, extractor-numbers, enter-numbers, enter-leaves, step-numbers, step-leaves}
 
 module _ (settings numbers store frame answer : List ℕ) where
-  pub enter-short : short (length settings) (length numbers) (length answer) 5 ≡ true
+  pub enter-short : short (length settings) (length numbers) (length answer) 6 ≡ true
       → left 2 numbers [] answer ≡ enter-leaves settings numbers store frame answer
   unfolding enter-leaves
   enter-short t = rw t
 
   pub enter-done : (s : Settings) (x : Extractor) (e : Entering) {refusal : ℕ} {state said numbers′ answer′ : List ℕ}
-      → short (length settings) (length numbers) (length answer) 5 ≡ false → s ≡ settings-of settings → x ≡ extractor-of numbers
+      → short (length settings) (length numbers) (length answer) 6 ≡ false → s ≡ settings-of settings → x ≡ extractor-of numbers
       → enter-says e ≡ enter-answer s x store frame → refusal ≡ entered-numbers (e .entered) .refusal
       → state ≡ extractor-numbers (e .next) → said ≡ enter-numbers (entered-numbers (e .entered))
       → numbers′ ≡ kept refusal numbers state → answer′ ≡ told answer said

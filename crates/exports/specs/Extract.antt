@@ -43,22 +43,23 @@ extractor-of ns = extractor-with (getD ns 0 0) (count-of (getD ns 1 0)) (getD ns
 
 -- ---- entering
 
+-- 1 for a frame that is entered, and what is said of it
 unfoldable pub enter-numbers : EnterNumbers → List ℕ
-enter-numbers a = a .count ∷ a .replay ∷ a .lost ∷ a .dropped ∷ a .reason ∷ []
+enter-numbers a = a .outcome ∷ a .count ∷ a .replay ∷ a .lost ∷ a .dropped ∷ a .reason ∷ []
 
 unfoldable pub enter-leaves : List ℕ → List ℕ → List ℕ → List ℕ → List ℕ → Left
 enter-leaves settings numbers store frame answer =
     let a : EnterSaid = enter-answer (settings-of settings) (extractor-of numbers) store frame in
     let refusal : ℕ = a .answer .refusal in
-    pick (short (length settings) (length numbers) (length answer) 5)
+    pick (short (length settings) (length numbers) (length answer) 6)
     (left 2 numbers [] answer)
     (left refusal (kept refusal numbers (extractor-numbers (a .next))) [] (told answer (enter-numbers (a .answer))))
 
 -- ---- a step
 
--- what it was, 0 for spent; and where the packet lies
+-- 1 a packet, 2 an idle packet, 3 damaged, 4 spent; and where the packet lies
 unfoldable pub step-numbers : StepNumbers → List ℕ
-step-numbers a = pick (eqb (a .outcome) 4) 0 (a .outcome) ∷ a .place ∷ a .start ∷ a .size ∷ []
+step-numbers a = a .outcome ∷ a .place ∷ a .start ∷ a .size ∷ []
 
 unfoldable pub step-leaves : List ℕ → List ℕ → List ℕ → List ℕ → List ℕ → Left
 step-leaves settings numbers store frame answer =

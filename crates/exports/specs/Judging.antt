@@ -4,7 +4,7 @@ use mathlib.Core.List.{List, [], _∷_}
 use mathlib.Core.Bool.{not}
 use lib.ListN.{length, getD}
 use lib.Dec.{eqb}
-use Rattle.octets.specs.Basics.{pick, and}
+use Rattle.octets.specs.Basics.{pick}
 use Rattle.judge.specs.Calls.{FrameSaid, frame-call, CloseSaid, close-call}
 use Rattle.judge.specs.declared.Judge.{Judge}
 use Rattle.judge.specs.declared.Judge.the-variants.{Open, Sound, Faulty}
@@ -48,9 +48,9 @@ judge-leaves settings numbers store frame =
 
 -- ---- the close
 
--- 0 a pass, 1 a fault, and where it stands
+-- 1 a pass, 2 a fault, and where it stands
 unfoldable pub close-numbers : CloseSaid → List ℕ
-close-numbers a = pick {A = ℕ} (and (a .accepted) (not (a .passes))) 1 0 ∷ a .at ∷ []
+close-numbers a = pick (a .accepted) (pick {A = ℕ} (a .passes) 1 2) 0 ∷ a .at ∷ []
 
 unfoldable pub close-leaves : List ℕ → List ℕ → List ℕ → List ℕ → Left
 close-leaves settings numbers store answer =

@@ -19,9 +19,9 @@ mux-of ns = record { count = count-of (getD ns 0 0); filled = getD ns 1 0; first
 unfoldable pub put-numbers : Answer → List ℕ
 put-numbers a = bit (a .full) ∷ bit (a .taken) ∷ []
 
--- what a flush answers: whether a frame was written
+-- what a flush answers: 1 nothing was begun, 2 a frame was written
 unfoldable pub flush-numbers : Answer → List ℕ
-flush-numbers a = bit (a .full) ∷ []
+flush-numbers a = pick (a .accepted) (pick {A = ℕ} (a .full) 2 1) 0 ∷ []
 
 -- an idle zone answers no more than its refusal
 abbrev pub no-numbers : Answer → List ℕ

@@ -1,5 +1,5 @@
 -- Packet headers, wrapping and unwrapping, in the numbers of the C interface. An answer's array that is short is refused first.
-use Prim.Native.Nat.{ℕ, _-_}
+use Prim.Native.Nat.{ℕ}
 use mathlib.Core.List.{List, [], _∷_}
 use lib.ListN.{length}
 use lib.Dec.{ltb, eqb}
@@ -12,11 +12,11 @@ use Rattle.exports.specs.Left.{Left, left, told, bit}
 unfoldable pub kind-number : ℕ → ℕ
 kind-number version = pick (eqb version 0) 1 2
 
--- what was found: 0 more octets are needed, 1 damaged, 2 a header; of a header its kind, whether it is idle, its APID or
+-- what was found: 1 more octets are needed, 2 damaged, 3 a header; of a header its kind, whether it is idle, its APID or
 -- protocol, its length and the packet's
 unfoldable pub header-numbers : Reading → List ℕ
 header-numbers r =
-    (r .outcome - 1)
+    r .outcome
     ∷ pick (eqb (r .outcome) 3) (kind-number (r .version)) 0
     ∷ bit (r .idle)
     ∷ r .key

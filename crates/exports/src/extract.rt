@@ -83,12 +83,13 @@ fn entered_refusal(entered: Entered) -> u64
     }
 }
 
-fn enter_numbers(entered: Entered) -> [u64; 5]
+fn enter_numbers(entered: Entered) -> [u64; 6]
     ensures { λ r. ⌜ r ≡ enter-numbers (entered-numbers entered) ⌝ }
 {
     match entered {
-        Entered::Refused { refusal: _ } => [0; 5],
+        Entered::Refused { refusal: _ } => [0; 6],
         Entered::Taken { entry } => [
+            1,
             entry.count as u64,
             entry.replay as u64,
             entry.lost as u64,
@@ -108,7 +109,7 @@ pub extern "C" fn itz_extractor_enter(
 ) -> u64
     ensures { λ r. ⌜ left r (now («record» .exit)) [] (now (answer .exit)) ≡ enter-leaves (now (settings .entry)) (now («record» .entry)) (now (store .entry)) (now (frame .entry)) (now (answer .entry)) ⌝ }
 {
-    if is_short(settings.len(), record.len(), answer.len(), 5) {
+    if is_short(settings.len(), record.len(), answer.len(), 6) {
         return 2;
     }
     let entering = extractor::enter(settings_of(settings), extractor_of(record), store, frame);
@@ -153,7 +154,7 @@ fn step_numbers(found: Found) -> [u64; 4]
         Found::InFrame { start, size, idle } => [packet_number(idle), 1, start as u64, size as u64],
         Found::InStore { size, idle } => [packet_number(idle), 2, 0, size as u64],
         Found::Damaged => [3, 0, 0, 0],
-        Found::Spent => [0; 4],
+        Found::Spent => [4, 0, 0, 0],
     }
 }
 

@@ -99,8 +99,8 @@ fn close_numbers(closed: Closed) -> [u64; 2]
 {
     match closed {
         Closed::Refused { refusal: _ } => [0; 2],
-        Closed::Pass => [0; 2],
-        Closed::Fault { at } => [1, at as u64],
+        Closed::Pass => [1, 0],
+        Closed::Fault { at } => [2, at as u64],
     }
 }
 

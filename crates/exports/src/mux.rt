@@ -2,6 +2,7 @@
 ghost use mathlib.Core.Path.{_≡_};
 ghost use Prim.Native.Nat.{ℕ};
 ghost use mathlib.Core.List.{List, []};
+ghost use Rattle.octets.specs.Basics.{pick};
 ghost use Rattle.multiplexer.specs.Calls.{to-put, to-flush, to-idle, answers};
 ghost use Rattle.exports.specs.Left.{left};
 ghost use Rattle.exports.specs.Mux.{mux-of, mux-numbers, put-numbers, flush-numbers, no-numbers, mux-leaves};
@@ -77,6 +78,13 @@ fn put_numbers(reply: Reply) -> [u64; 2]
     }
 }
 
+// What a flush did: 2 where it wrote a frame, and 1 where nothing was begun.
+fn flush_number(full: bool) -> u64
+    ensures { λ r. ⌜ r ≡ pick {A = ℕ} full 2 1 ⌝ }
+{
+    if full { 2 } else { 1 }
+}
+
 fn flush_numbers(reply: Reply) -> [u64; 1]
     ensures { λ r. ⌜ ((frame : List ℕ) → r ≡ flush-numbers (answers reply frame)) ⌝ }
 {
@@ -86,7 +94,7 @@ fn flush_numbers(reply: Reply) -> [u64; 1]
             full,
             taken: _,
             mux: _,
-        } => [flag(full)],
+        } => [flush_number(full)],
     }
 }
 

@@ -51,8 +51,8 @@ fn header_numbers(header: Header) -> [u64; 6]
 {
     match header {
         Header::Refused { refusal: _ } => [0; 6],
-        Header::More => [0; 6],
-        Header::Damaged => [1, 0, 0, 0, 0, 0],
+        Header::More => [1, 0, 0, 0, 0, 0],
+        Header::Damaged => [2, 0, 0, 0, 0, 0],
         Header::Whole {
             kind,
             key,
@@ -60,7 +60,7 @@ fn header_numbers(header: Header) -> [u64; 6]
             size,
             total,
         } => [
-            2,
+            3,
             kind_number(kind),
             flag(idle),
             key as u64,

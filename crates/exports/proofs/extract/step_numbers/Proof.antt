@@ -1,20 +1,11 @@
 -- `exports::extract::step_numbers` meets its contract, answer by answer.
 -- Assumes nothing.
-use mathlib.Core.Path.{_≡_, refl}
-use mathlib.Core.List.{List, _∷_}
-use mathlib.Core.Bool.{Bool, true, false}
-use Prim.Native.Nat.{ℕ}
-use lib.Dec.{eqb}
-use Rattle.octets.specs.Basics.{pick}
-use Rattle.extractor.specs.Answers.{packet-or-idle, found-numbers}
+use mathlib.Core.Path.{refl}
+use Rattle.extractor.specs.Answers.{found-numbers}
 use Rattle.exports.specs.Extract.{step-numbers}
 use borrow.Author.Needs.{needs}
 use Rattle.exports.proofs.extract.step_numbers.Statement.{statement}
 use Rattle.exports.proofs.extract.step_numbers.Tie as tie
-
-not-spent : (idle : Bool) (rest : List ℕ) → packet-or-idle idle ∷ rest ≡ pick (eqb (packet-or-idle idle) 4) 0 (packet-or-idle idle) ∷ rest
-not-spent true rest = refl
-not-spent false rest = refl
 
 returns : tie.Need-returns
 unfolding step-numbers found-numbers
@@ -22,11 +13,11 @@ returns c = λ frame store. rw (c .enum-told .given .1) refl
 
 returns-2 : tie.Need-returns-2
 unfolding step-numbers found-numbers
-returns-2 c = λ frame store. rw (c .before .before .found .given .1, c .packet-number .ensures) (not-spent (c .before .before .found .given .0 .1 .1 .0) _)
+returns-2 c = λ frame store. rw (c .before .before .found .given .1, c .packet-number .ensures) refl
 
 returns-3 : tie.Need-returns-3
 unfolding step-numbers found-numbers
-returns-3 c = λ frame store. rw (c .before .before .found2 .given .1, c .packet-number2 .ensures) (not-spent (c .before .before .found2 .given .0 .1 .0) _)
+returns-3 c = λ frame store. rw (c .before .before .found2 .given .1, c .packet-number2 .ensures) refl
 
 returns-4 : tie.Need-returns-4
 unfolding step-numbers found-numbers

@@ -13,7 +13,7 @@ returns c = λ frame. rw (c .enum-told .given .1) refl
 
 returns-2 : tie.Need-returns-2
 unfolding flush-numbers answers
-returns-2 c = λ frame. rw (c .before .before .reply .given .1, c .flag .ensures) refl
+returns-2 c = λ frame. rw (c .before .before .reply .given .1, c .flush-number .ensures) refl
 
 pub flush-numbers-spec : {M : Type 1} → statement M
 flush-numbers-spec =
