@@ -1,6 +1,6 @@
 -- What the bitstream channel's calls leave, from what the library answers.
 -- Assumes nothing.
-use mathlib.Core.Path.{_≡_, ap}
+use mathlib.Core.Path.{_≡_, refl, ap, _∙_}
 use mathlib.Core.List.{List, [], _∷_}
 use mathlib.Core.Bool.{true, false}
 use Prim.Native.Nat.{ℕ}
@@ -11,8 +11,9 @@ use Rattle.bitstream.specs.declared.Writer.{Writer}
 use Rattle.bitstream.specs.declared.Written.{Written}
 use Rattle.bitstream.specs.declared.Reader.{Reader}
 use Rattle.bitstream.specs.declared.Reading.{Reading}
-use Rattle.exports.specs.Left.{left, told, kept}
+use Rattle.exports.specs.Left.{left, kept}
 use Rattle.exports.specs.Bits.{bits-short, bit-settings-of, writer-of, write-leaves, reader-of, reader-numbers, read-numbers, read-leaves}
+use Rattle.exports.proofs.Leaving.{leaving}
 
 module _ (settings numbers bits : List ℕ) (n : ℕ) (frame : List ℕ) where
   pub write-short : bits-short (length settings) (length numbers) 1 0 0 ≡ true
@@ -33,12 +34,11 @@ module _ (settings numbers frame answer : List ℕ) where
   unfolding read-leaves
   read-short t = rw t
 
-  pub read-done : (s : BitSettings) (x : Reader) (r : Reading) {octets state said numbers′ answer′ : List ℕ}
+  pub read-done : (s : BitSettings) (x : Reader) (r : Reading) {refusal : ℕ} {octets state said numbers′ answer′ : List ℕ}
       → bits-short (length settings) (length numbers) 2 (length answer) 6 ≡ false → s ≡ bit-settings-of settings → x ≡ reader-of numbers
       → r ≡ reading s x frame → octets ≡ leading-octets s (r .bits) frame → state ≡ reader-numbers (r .reader)
-      → ((s : BitSettings) (f : List ℕ) → length octets ≡ length (leading-octets s (r .bits) f) → said ≡ read-numbers s f r)
-      → numbers′ ≡ kept (r .refusal) numbers state → answer′ ≡ told answer said
-      → left (r .refusal) numbers′ [] answer′ ≡ read-leaves settings numbers frame answer
+      → ((s : BitSettings) (f : List ℕ) → length octets ≡ length (leading-octets s (r .bits) f) → said ≡ r .refusal ∷ read-numbers s f r)
+      → left refusal numbers′ [] answer′ ≡ leaving numbers state answer said
+      → left refusal numbers′ [] answer′ ≡ read-leaves settings numbers frame answer
   unfolding read-leaves
-  read-done s x r t s-is x-is e o state said k p =
-      rw (t, ← s-is, ← x-is, ← e, k, p, state, said s frame (ap length o))
+  read-done s x r t s-is x-is e o state said k = k ∙ rw (t, ← s-is, ← x-is, ← e, state, said s frame (ap length o)) refl

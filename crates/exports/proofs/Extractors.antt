@@ -1,7 +1,7 @@
 -- What the extractor's calls leave, from what the library answers.
 -- Assumes nothing.
-use mathlib.Core.Path.{_≡_}
-use mathlib.Core.List.{List, []}
+use mathlib.Core.Path.{_≡_, refl, _∙_}
+use mathlib.Core.List.{List, [], _∷_}
 use mathlib.Core.Bool.{true, false}
 use Prim.Native.Nat.{ℕ}
 use lib.ListN.{length}
@@ -10,9 +10,10 @@ use Rattle.extractor.specs.Answers.{entered-numbers, enter-says, enter-answer, 
 use Rattle.extractor.specs.declared.Extractor.{Extractor}
 use Rattle.extractor.specs.declared.Entering.{Entering}
 use Rattle.extractor.specs.declared.Move.{Move}
-use Rattle.exports.specs.Left.{left, told, kept}
+use Rattle.exports.specs.Left.{left}
 use Rattle.exports.specs.Channel.{short, settings-of}
 use Rattle.exports.specs.Extract.{extractor-of, extractor-numbers, enter-numbers, enter-leaves, step-numbers, step-leaves}
+use Rattle.exports.proofs.Leaving.{leaving, with-octets}
 
 module _ (settings numbers store frame answer : List ℕ) where
   pub enter-short : short (length settings) (length numbers) (length answer) 6 ≡ true
@@ -22,12 +23,12 @@ module _ (settings numbers store frame answer : List ℕ) where
 
   pub enter-done : (s : Settings) (x : Extractor) (e : Entering) {refusal : ℕ} {state said numbers′ answer′ : List ℕ}
       → short (length settings) (length numbers) (length answer) 6 ≡ false → s ≡ settings-of settings → x ≡ extractor-of numbers
-      → enter-says e ≡ enter-answer s x store frame → refusal ≡ entered-numbers (e .entered) .refusal
-      → state ≡ extractor-numbers (e .next) → said ≡ enter-numbers (entered-numbers (e .entered))
-      → numbers′ ≡ kept refusal numbers state → answer′ ≡ told answer said
+      → enter-says e ≡ enter-answer s x store frame → state ≡ extractor-numbers (e .next)
+      → said ≡ entered-numbers (e .entered) .refusal ∷ enter-numbers (entered-numbers (e .entered))
+      → left refusal numbers′ [] answer′ ≡ leaving numbers state answer said
       → left refusal numbers′ [] answer′ ≡ enter-leaves settings numbers store frame answer
   unfolding enter-leaves
-  enter-done s x e t s-is x-is r refusal state said k p = rw (t, ← s-is, ← x-is, ← r, k, p, said, state, refusal)
+  enter-done s x e t s-is x-is r state said k = k ∙ rw (t, ← s-is, ← x-is, ← r, said, state) refl
 
   pub step-short : short (length settings) (length numbers) (length answer) 4 ≡ true
       → left 2 numbers store answer ≡ step-leaves settings numbers store frame answer
@@ -36,11 +37,10 @@ module _ (settings numbers store frame answer : List ℕ) where
 
   pub step-done : (s : Settings) (x : Extractor) (m : Move) {refusal : ℕ} {state said numbers′ store′ answer′ : List ℕ}
       → short (length settings) (length numbers) (length answer) 4 ≡ false → s ≡ settings-of settings → x ≡ extractor-of numbers
-      → step-says m frame store′ ≡ step-answer s x store frame
-      → ((f os : List ℕ) → refusal ≡ found-numbers f os (m .found) .refusal) → state ≡ extractor-numbers (m .next)
-      → ((f os : List ℕ) → said ≡ step-numbers (found-numbers f os (m .found)))
-      → numbers′ ≡ kept refusal numbers state → answer′ ≡ told answer said
+      → step-says m frame store′ ≡ step-answer s x store frame → state ≡ extractor-numbers (m .next)
+      → ((f os : List ℕ) → said ≡ found-numbers f os (m .found) .refusal ∷ step-numbers (found-numbers f os (m .found)))
+      → left refusal numbers′ [] answer′ ≡ leaving numbers state answer said
       → left refusal numbers′ store′ answer′ ≡ step-leaves settings numbers store frame answer
   unfolding step-leaves
-  step-done s x m {store′ = store′} t s-is x-is r refusal state said k p =
-      rw (t, ← s-is, ← x-is, ← r, k, p, said frame store′, state, refusal frame store′)
+  step-done s x m {store′ = store′} t s-is x-is r state said k =
+      with-octets store′ k ∙ rw (t, ← s-is, ← x-is, ← r, said frame store′, state) refl

@@ -1,10 +1,10 @@
 -- What the judge's calls leave, from what the library answers.
 -- Assumes nothing.
 use mathlib.Core.Path.{_≡_}
-use mathlib.Core.List.{List, []}
+use mathlib.Core.List.{List, [], _∷_}
 use mathlib.Core.Bool.{true, false}
 use Prim.Native.Nat.{ℕ}
-use lib.ListN.{length}
+use lib.ListN.{length, getD, drop}
 use Rattle.frames.specs.declared.Settings.{Settings}
 use Rattle.judge.specs.Calls.{frame-says, frame-call, close-says, close-call}
 use Rattle.judge.specs.declared.Judge.{Judge}
@@ -34,7 +34,7 @@ module _ (settings numbers store answer : List ℕ) where
 
   pub close-done : (s : Settings) (j : Judge) (r : Closed) {refusal : ℕ} {said answer′ : List ℕ}
       → short (length settings) (length numbers) (length answer) 2 ≡ false → s ≡ settings-of settings → j ≡ judge-of numbers
-      → close-says r ≡ close-call s store j → refusal ≡ close-says r .refusal → said ≡ close-numbers (close-says r)
-      → answer′ ≡ told answer said → left refusal [] [] answer′ ≡ close-leaves settings numbers store answer
+      → close-says r ≡ close-call s store j → said ≡ close-says r .refusal ∷ close-numbers (close-says r)
+      → refusal ≡ getD said 0 0 → answer′ ≡ told answer (drop 1 said) → left refusal [] [] answer′ ≡ close-leaves settings numbers store answer
   unfolding close-leaves
-  close-done s j r t s-is j-is e refusal said p = rw (t, ← s-is, ← j-is, ← e, p, said, refusal)
+  close-done s j r t s-is j-is e said refusal p = rw (t, ← s-is, ← j-is, ← e, p, refusal, said)

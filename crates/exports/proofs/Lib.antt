@@ -1,4 +1,5 @@
 mod Wraps
+mod Leaving
 mod Muxes
 mod Extractors
 mod Judges

@@ -1,9 +1,11 @@
 // Arrays of numbers: settings, records and answers.
 ghost use mathlib.Core.Path.{_≡_};
-ghost use Prim.Native.Nat.{_≤_};
-ghost use lib.ListN.{length, getD};
+ghost use Prim.Native.Nat.{_+_, _≤_};
+ghost use mathlib.Core.List.{[]};
+ghost use lib.ListN.{length, getD, drop};
+ghost use lib.Dec.{leb};
 ghost use Rattle.octets.specs.Basics.{over};
-ghost use Rattle.exports.specs.Left.{told, kept, bit, octet-of, count-of};
+ghost use Rattle.exports.specs.Left.{left, told, kept, bit, octet-of, count-of};
 
 // A yes or no as a number.
 pub(crate) fn flag(yes: bool) -> u64
@@ -64,4 +66,35 @@ pub(crate) fn keep(array: &mut [u64], refusal: u64, numbers: &[u64])
     if refusal == 0 {
         put(array, numbers);
     }
+}
+
+// Writes an answer whose numbers stand behind its refusal, and hands the refusal on.
+pub(crate) fn tell(answer: &mut [u64], said: &[u64]) -> u64
+    requires { ⌜ 1 ≤ length (now said) ⌝ }
+    ensures { λ r. ⌜ (r ≡ getD (now (said .entry)) 0 0) × (now (answer .exit) ≡ told (now (answer .entry)) (drop 1 (now (said .entry)))) ⌝ }
+{
+    put(answer, &said[1..]);
+    said[0]
+}
+
+// Leaves what a call with a record answered: its answer, and the record's numbers where it is not refused.
+pub(crate) fn leave(record: &mut [u64], state: &[u64], answer: &mut [u64], said: &[u64]) -> u64
+    requires { ⌜ 1 ≤ length (now said) ⌝ }
+    ensures { λ r. ⌜ left r (now («record» .exit)) [] (now (answer .exit)) ≡ left (getD (now (said .entry)) 0 0) (kept (getD (now (said .entry)) 0 0) (now («record» .entry)) (now (state .entry))) [] (told (now (answer .entry)) (drop 1 (now (said .entry)))) ⌝ }
+{
+    keep(record, said[0], state);
+    tell(answer, said)
+}
+
+// Whether `size` octets from `start` lie within a buffer of so many.
+pub(crate) fn inside(room: usize, start: usize, size: usize) -> bool
+    ensures { λ r. ⌜ r ≡ leb (start + size) room ⌝ }
+{
+    if room < start {
+        return false;
+    }
+    if room - start < size {
+        return false;
+    }
+    true
 }

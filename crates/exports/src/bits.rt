@@ -1,7 +1,7 @@
 // The bitstream channel.
 ghost use mathlib.Core.Path.{_≡_};
 ghost use Prim.Native.Nat.{ℕ};
-ghost use mathlib.Core.List.{List, []};
+ghost use mathlib.Core.List.{List, [], _∷_};
 ghost use lib.ListN.{length};
 ghost use lib.Dec.{eqb};
 ghost use Rattle.octets.specs.Basics.{pick};
@@ -13,8 +13,8 @@ use crate::arrays::count_of;
 use crate::arrays::entry;
 use crate::arrays::flag;
 use crate::arrays::keep;
+use crate::arrays::leave;
 use crate::arrays::octet_of;
-use crate::arrays::put;
 use crate::channel::link_of;
 use crate::channel::zone_for;
 use bitstream::Reader;
@@ -117,10 +117,12 @@ fn bits_at(refusal: u8) -> u64
     if refusal == 0 { ZONE_AT as u64 } else { 0 }
 }
 
-fn read_numbers(reading: Reading, octets: usize) -> [u64; 6]
-    ensures { λ r. ⌜ ((s : BitSettings) (frame : List ℕ) → octets ≡ length (leading-octets s (reading .bits) frame) → r ≡ read-numbers s frame reading) ⌝ }
+// The refusal, and the numbers of the answer behind it.
+fn read_said(reading: Reading, octets: usize) -> [u64; 7]
+    ensures { λ r. ⌜ ((s : BitSettings) (frame : List ℕ) → octets ≡ length (leading-octets s (reading .bits) frame) → r ≡ reading .refusal ∷ read-numbers s frame reading) ⌝ }
 {
     [
+        reading.refusal as u64,
         reading.count as u64,
         reading.replay as u64,
         flag(reading.lost),
@@ -146,10 +148,7 @@ pub extern "C" fn itz_bits_read(
     let reading = bitstream::read(settings, reader_of(record), frame);
     let reader = reading.reader;
     let octets = bitstream::leading_octets(settings, reading.bits, frame).len();
-    let refusal = reading.refusal as u64;
     let state = reader_numbers(reader);
-    let numbers = read_numbers(reading, octets);
-    keep(record, refusal, &state);
-    put(answer, &numbers);
-    refusal
+    let said = read_said(reading, octets);
+    leave(record, &state, answer, &said)
 }

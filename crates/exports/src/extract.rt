@@ -1,14 +1,13 @@
 // The extractor.
 ghost use mathlib.Core.Path.{_≡_};
 ghost use Prim.Native.Nat.{ℕ};
-ghost use mathlib.Core.List.{List, []};
+ghost use mathlib.Core.List.{List, [], _∷_};
 ghost use Rattle.extractor.specs.Answers.{entered-numbers, packet-or-idle, found-numbers};
 ghost use Rattle.exports.specs.Left.{left};
 ghost use Rattle.exports.specs.Extract.{unreached, extractor-with, extractor-of, extractor-numbers, enter-numbers, enter-leaves, step-numbers, step-leaves};
 use crate::arrays::count_of;
 use crate::arrays::entry;
-use crate::arrays::keep;
-use crate::arrays::put;
+use crate::arrays::leave;
 use crate::channel::is_short;
 use crate::channel::settings_of;
 use extractor::Entered;
@@ -74,21 +73,14 @@ fn extractor_numbers(x: Extractor) -> [u64; 4]
     }
 }
 
-fn entered_refusal(entered: Entered) -> u64
-    ensures { λ r. ⌜ r ≡ entered-numbers entered .refusal ⌝ }
+// An answer's refusal, and the numbers behind it.
+fn entered_said(entered: Entered) -> [u64; 7]
+    ensures { λ r. ⌜ r ≡ entered-numbers entered .refusal ∷ enter-numbers (entered-numbers entered) ⌝ }
 {
     match entered {
-        Entered::Refused { refusal } => refusal as u64,
-        Entered::Taken { entry: _ } => 0,
-    }
-}
-
-fn enter_numbers(entered: Entered) -> [u64; 6]
-    ensures { λ r. ⌜ r ≡ enter-numbers (entered-numbers entered) ⌝ }
-{
-    match entered {
-        Entered::Refused { refusal: _ } => [0; 6],
+        Entered::Refused { refusal } => [refusal as u64, 0, 0, 0, 0, 0, 0],
         Entered::Taken { entry } => [
+            0,
             1,
             entry.count as u64,
             entry.replay as u64,
@@ -115,28 +107,9 @@ pub extern "C" fn itz_extractor_enter(
     let entering = extractor::enter(settings_of(settings), extractor_of(record), store, frame);
     let entered = entering.entered;
     let next = entering.next;
-    let refusal = entered_refusal(entered);
+    let said = entered_said(entered);
     let state = extractor_numbers(next);
-    let numbers = enter_numbers(entered);
-    keep(record, refusal, &state);
-    put(answer, &numbers);
-    refusal
-}
-
-fn found_refusal(found: Found) -> u64
-    ensures { λ r. ⌜ ((frame store : List ℕ) → r ≡ found-numbers frame store found .refusal) ⌝ }
-{
-    match found {
-        Found::Refused { refusal } => refusal as u64,
-        Found::InFrame {
-            start: _,
-            size: _,
-            idle: _,
-        } => 0,
-        Found::InStore { size: _, idle: _ } => 0,
-        Found::Damaged => 0,
-        Found::Spent => 0,
-    }
+    leave(record, &state, answer, &said)
 }
 
 // What a packet is: 1, and 2 where it is idle.
@@ -146,15 +119,17 @@ fn packet_number(idle: bool) -> u64
     if idle { 2 } else { 1 }
 }
 
-fn step_numbers(found: Found) -> [u64; 4]
-    ensures { λ r. ⌜ ((frame store : List ℕ) → r ≡ step-numbers (found-numbers frame store found)) ⌝ }
+fn step_said(found: Found) -> [u64; 5]
+    ensures { λ r. ⌜ ((frame store : List ℕ) → r ≡ found-numbers frame store found .refusal ∷ step-numbers (found-numbers frame store found)) ⌝ }
 {
     match found {
-        Found::Refused { refusal: _ } => [0; 4],
-        Found::InFrame { start, size, idle } => [packet_number(idle), 1, start as u64, size as u64],
-        Found::InStore { size, idle } => [packet_number(idle), 2, 0, size as u64],
-        Found::Damaged => [3, 0, 0, 0],
-        Found::Spent => [4, 0, 0, 0],
+        Found::Refused { refusal } => [refusal as u64, 0, 0, 0, 0],
+        Found::InFrame { start, size, idle } => {
+            [0, packet_number(idle), 1, start as u64, size as u64]
+        }
+        Found::InStore { size, idle } => [0, packet_number(idle), 2, 0, size as u64],
+        Found::Damaged => [0, 3, 0, 0, 0],
+        Found::Spent => [0, 4, 0, 0, 0],
     }
 }
 
@@ -174,10 +149,7 @@ pub extern "C" fn itz_extractor_step(
     let moved = extractor::step(settings_of(settings), extractor_of(record), store, frame);
     let found = moved.found;
     let next = moved.next;
-    let refusal = found_refusal(found);
+    let said = step_said(found);
     let state = extractor_numbers(next);
-    let numbers = step_numbers(found);
-    keep(record, refusal, &state);
-    put(answer, &numbers);
-    refusal
+    leave(record, &state, answer, &said)
 }

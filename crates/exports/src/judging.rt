@@ -1,13 +1,13 @@
 // The judge.
 ghost use mathlib.Core.Path.{_≡_};
-ghost use mathlib.Core.List.{[]};
+ghost use mathlib.Core.List.{[], _∷_};
 ghost use Rattle.judge.specs.Calls.{close-says};
 ghost use Rattle.exports.specs.Left.{left};
 ghost use Rattle.exports.specs.Judging.{unjudged, judge-with, judge-of, judge-numbers, judge-leaves, close-numbers, close-leaves};
 use crate::arrays::count_of;
 use crate::arrays::entry;
 use crate::arrays::keep;
-use crate::arrays::put;
+use crate::arrays::tell;
 use crate::channel::is_short;
 use crate::channel::settings_of;
 use judge::Closed;
@@ -84,23 +84,14 @@ pub extern "C" fn itz_judge_frame(
     refusal
 }
 
-fn closed_refusal(closed: Closed) -> u64
-    ensures { λ r. ⌜ r ≡ close-says closed .refusal ⌝ }
+// An answer's refusal, and the numbers behind it.
+fn closed_said(closed: Closed) -> [u64; 3]
+    ensures { λ r. ⌜ r ≡ close-says closed .refusal ∷ close-numbers (close-says closed) ⌝ }
 {
     match closed {
-        Closed::Refused { refusal } => refusal as u64,
-        Closed::Pass => 0,
-        Closed::Fault { at: _ } => 0,
-    }
-}
-
-fn close_numbers(closed: Closed) -> [u64; 2]
-    ensures { λ r. ⌜ r ≡ close-numbers (close-says closed) ⌝ }
-{
-    match closed {
-        Closed::Refused { refusal: _ } => [0; 2],
-        Closed::Pass => [1, 0],
-        Closed::Fault { at } => [2, at as u64],
+        Closed::Refused { refusal } => [refusal as u64, 0, 0],
+        Closed::Pass => [0, 1, 0],
+        Closed::Fault { at } => [0, 2, at as u64],
     }
 }
 
@@ -116,8 +107,6 @@ pub extern "C" fn itz_judge_close(
     if is_short(settings.len(), record.len(), answer.len(), 2) {
         return 2;
     }
-    let closed = judge::close(settings_of(settings), judge_of(record), store);
-    let numbers = close_numbers(closed);
-    put(answer, &numbers);
-    closed_refusal(closed)
+    let said = closed_said(judge::close(settings_of(settings), judge_of(record), store));
+    tell(answer, &said)
 }

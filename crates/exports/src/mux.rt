@@ -1,7 +1,7 @@
 // The multiplexer.
 ghost use mathlib.Core.Path.{_≡_};
 ghost use Prim.Native.Nat.{ℕ};
-ghost use mathlib.Core.List.{List, []};
+ghost use mathlib.Core.List.{List, [], _∷_};
 ghost use Rattle.octets.specs.Basics.{pick};
 ghost use Rattle.multiplexer.specs.Calls.{to-put, to-flush, to-idle, answers};
 ghost use Rattle.exports.specs.Left.{left};
@@ -10,7 +10,7 @@ use crate::arrays::count_of;
 use crate::arrays::entry;
 use crate::arrays::flag;
 use crate::arrays::keep;
-use crate::arrays::put;
+use crate::arrays::leave;
 use crate::channel::is_short;
 use crate::channel::settings_of;
 use multiplexer::Mux;
@@ -38,43 +38,23 @@ fn mux_numbers(m: Mux) -> [u64; 4]
     ]
 }
 
-fn reply_refusal(reply: Reply) -> u64
-    ensures { λ r. ⌜ ((frame : List ℕ) → r ≡ answers reply frame .refusal) ⌝ }
-{
-    match reply {
-        Reply::Refused { refusal, mux: _ } => refusal as u64,
-        Reply::Done {
-            full: _,
-            taken: _,
-            mux: _,
-        } => 0,
-    }
-}
-
 // The record to go on with.
 fn next_mux(reply: Reply) -> [u64; 4]
     ensures { λ r. ⌜ ((frame : List ℕ) → r ≡ mux-numbers (answers reply frame .mux)) ⌝ }
 {
     match reply {
-        Reply::Refused { refusal: _, mux } => mux_numbers(mux),
-        Reply::Done {
-            full: _,
-            taken: _,
-            mux,
-        } => mux_numbers(mux),
+        Reply::Refused { mux, .. } => mux_numbers(mux),
+        Reply::Done { mux, .. } => mux_numbers(mux),
     }
 }
 
-fn put_numbers(reply: Reply) -> [u64; 2]
-    ensures { λ r. ⌜ ((frame : List ℕ) → r ≡ put-numbers (answers reply frame)) ⌝ }
+// The refusal, and the numbers of a put's answer behind it.
+fn put_said(reply: Reply) -> [u64; 3]
+    ensures { λ r. ⌜ ((frame : List ℕ) → r ≡ answers reply frame .refusal ∷ put-numbers (answers reply frame)) ⌝ }
 {
     match reply {
-        Reply::Refused { refusal: _, mux: _ } => [0; 2],
-        Reply::Done {
-            full,
-            taken,
-            mux: _,
-        } => [flag(full), flag(taken)],
+        Reply::Refused { refusal, .. } => [refusal as u64, 0, 0],
+        Reply::Done { full, taken, .. } => [0, flag(full), flag(taken)],
     }
 }
 
@@ -85,16 +65,13 @@ fn flush_number(full: bool) -> u64
     if full { 2 } else { 1 }
 }
 
-fn flush_numbers(reply: Reply) -> [u64; 1]
-    ensures { λ r. ⌜ ((frame : List ℕ) → r ≡ flush-numbers (answers reply frame)) ⌝ }
+// The refusal, and the number of a flush's answer behind it.
+fn flush_said(reply: Reply) -> [u64; 2]
+    ensures { λ r. ⌜ ((frame : List ℕ) → r ≡ answers reply frame .refusal ∷ flush-numbers (answers reply frame)) ⌝ }
 {
     match reply {
-        Reply::Refused { refusal: _, mux: _ } => [0],
-        Reply::Done {
-            full,
-            taken: _,
-            mux: _,
-        } => [flush_number(full)],
+        Reply::Refused { refusal, .. } => [refusal as u64, 0],
+        Reply::Done { full, .. } => [0, flush_number(full)],
     }
 }
 
@@ -112,12 +89,9 @@ pub extern "C" fn itz_mux_put(
         return 2;
     }
     let reply = multiplexer::put(settings_of(settings), mux_of(record), packet, frame);
-    let refusal = reply_refusal(reply);
     let state = next_mux(reply);
-    let numbers = put_numbers(reply);
-    keep(record, refusal, &state);
-    put(answer, &numbers);
-    refusal
+    let said = put_said(reply);
+    leave(record, &state, answer, &said)
 }
 
 #[no_mangle]
@@ -133,12 +107,9 @@ pub extern "C" fn itz_mux_flush(
         return 2;
     }
     let reply = multiplexer::flush(settings_of(settings), mux_of(record), frame);
-    let refusal = reply_refusal(reply);
     let state = next_mux(reply);
-    let numbers = flush_numbers(reply);
-    keep(record, refusal, &state);
-    put(answer, &numbers);
-    refusal
+    let said = flush_said(reply);
+    leave(record, &state, answer, &said)
 }
 
 #[no_mangle]
@@ -149,8 +120,8 @@ pub extern "C" fn itz_mux_idle(settings: &[u64], record: &mut [u64], frame: &mut
         return 2;
     }
     let reply = multiplexer::idle_zone(settings_of(settings), mux_of(record), frame);
-    let refusal = reply_refusal(reply);
     let state = next_mux(reply);
+    let refusal = put_said(reply)[0];
     keep(record, refusal, &state);
     refusal
 }

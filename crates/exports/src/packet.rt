@@ -1,14 +1,14 @@
 // Packet headers, wrapping and unwrapping.
 ghost use mathlib.Core.Path.{_≡_};
 ghost use Prim.Native.Nat.{ℕ};
-ghost use mathlib.Core.List.{List, []};
+ghost use mathlib.Core.List.{List, [], _∷_};
 ghost use Rattle.packets.specs.Header.{answer, version-of};
 ghost use Rattle.packets.specs.Wrap.{wraps, unwraps};
 ghost use Rattle.exports.specs.Left.{left};
 ghost use Rattle.exports.specs.Packet.{kind-number, header-numbers, header-leaves, wrap-numbers, wrap-leaves, unwrap-numbers, unwrap-leaves};
 use crate::arrays::flag;
 use crate::arrays::octet_of;
-use crate::arrays::put;
+use crate::arrays::tell;
 use packets::Header;
 use packets::Kind;
 use packets::Unwrapped;
@@ -20,23 +20,6 @@ const WRAPPED: usize = 1;
 
 const UNWRAPPED: usize = 4;
 
-fn header_refusal(header: Header) -> u64
-    ensures { λ r. ⌜ r ≡ answer header .refusal ⌝ }
-{
-    match header {
-        Header::Refused { refusal } => refusal as u64,
-        Header::More => 0,
-        Header::Damaged => 0,
-        Header::Whole {
-            kind: _,
-            key: _,
-            idle: _,
-            size: _,
-            total: _,
-        } => 0,
-    }
-}
-
 fn kind_number(kind: Kind) -> u64
     ensures { λ r. ⌜ r ≡ kind-number (version-of kind) ⌝ }
 {
@@ -46,13 +29,14 @@ fn kind_number(kind: Kind) -> u64
     }
 }
 
-fn header_numbers(header: Header) -> [u64; 6]
-    ensures { λ r. ⌜ r ≡ header-numbers (answer header) ⌝ }
+// An answer's refusal, and the numbers behind it; so for the others below.
+fn header_said(header: Header) -> [u64; 7]
+    ensures { λ r. ⌜ r ≡ answer header .refusal ∷ header-numbers (answer header) ⌝ }
 {
     match header {
-        Header::Refused { refusal: _ } => [0; 6],
-        Header::More => [1, 0, 0, 0, 0, 0],
-        Header::Damaged => [2, 0, 0, 0, 0, 0],
+        Header::Refused { refusal } => [refusal as u64, 0, 0, 0, 0, 0, 0],
+        Header::More => [0, 1, 0, 0, 0, 0, 0],
+        Header::Damaged => [0, 2, 0, 0, 0, 0, 0],
         Header::Whole {
             kind,
             key,
@@ -60,6 +44,7 @@ fn header_numbers(header: Header) -> [u64; 6]
             size,
             total,
         } => [
+            0,
             3,
             kind_number(kind),
             flag(idle),
@@ -77,27 +62,16 @@ pub extern "C" fn itz_read_header(limit: u64, octets: &[u8], answer: &mut [u64])
     if answer.len() < HEADER {
         return 2;
     }
-    let header = packets::read_header(limit as usize, octets);
-    let numbers = header_numbers(header);
-    put(answer, &numbers);
-    header_refusal(header)
+    let said = header_said(packets::read_header(limit as usize, octets));
+    tell(answer, &said)
 }
 
-fn wrapped_refusal(wrapped: Wrapped) -> u64
-    ensures { λ r. ⌜ ((packet : List ℕ) → r ≡ wraps wrapped packet .refusal) ⌝ }
+fn wrapped_said(wrapped: Wrapped) -> [u64; 2]
+    ensures { λ r. ⌜ ((packet : List ℕ) → r ≡ wraps wrapped packet .refusal ∷ wrap-numbers (wraps wrapped packet)) ⌝ }
 {
     match wrapped {
-        Wrapped::Refused { refusal } => refusal as u64,
-        Wrapped::Total { total: _ } => 0,
-    }
-}
-
-fn wrapped_numbers(wrapped: Wrapped) -> [u64; 1]
-    ensures { λ r. ⌜ ((packet : List ℕ) → r ≡ wrap-numbers (wraps wrapped packet)) ⌝ }
-{
-    match wrapped {
-        Wrapped::Refused { refusal: _ } => [0],
-        Wrapped::Total { total } => [total as u64],
+        Wrapped::Refused { refusal } => [refusal as u64, 0],
+        Wrapped::Total { total } => [0, total as u64],
     }
 }
 
@@ -117,37 +91,27 @@ pub extern "C" fn itz_wrap(
     }
     let protocol = octet_of(protocol);
     let extension = octet_of(extension);
-    let wrapped = packets::wrap(limit as usize, protocol, extension, data, packet);
-    let numbers = wrapped_numbers(wrapped);
-    put(answer, &numbers);
-    wrapped_refusal(wrapped)
+    let said = wrapped_said(packets::wrap(limit as usize, protocol, extension, data, packet));
+    tell(answer, &said)
 }
 
-fn unwrapped_refusal(unwrapped: Unwrapped) -> u64
-    ensures { λ r. ⌜ r ≡ unwraps unwrapped .refusal ⌝ }
+fn unwrapped_said(unwrapped: Unwrapped) -> [u64; 5]
+    ensures { λ r. ⌜ r ≡ unwraps unwrapped .refusal ∷ unwrap-numbers (unwraps unwrapped) ⌝ }
 {
     match unwrapped {
-        Unwrapped::Refused { refusal } => refusal as u64,
-        Unwrapped::Unit {
-            protocol: _,
-            extension: _,
-            start: _,
-            size: _,
-        } => 0,
-    }
-}
-
-fn unwrapped_numbers(unwrapped: Unwrapped) -> [u64; 4]
-    ensures { λ r. ⌜ r ≡ unwrap-numbers (unwraps unwrapped) ⌝ }
-{
-    match unwrapped {
-        Unwrapped::Refused { refusal: _ } => [0; 4],
+        Unwrapped::Refused { refusal } => [refusal as u64, 0, 0, 0, 0],
         Unwrapped::Unit {
             protocol,
             extension,
             start,
             size,
-        } => [protocol as u64, extension as u64, start as u64, size as u64],
+        } => [
+            0,
+            protocol as u64,
+            extension as u64,
+            start as u64,
+            size as u64,
+        ],
     }
 }
 
@@ -158,8 +122,6 @@ pub extern "C" fn itz_unwrap(limit: u64, packet: &[u8], answer: &mut [u64]) -> u
     if answer.len() < UNWRAPPED {
         return 2;
     }
-    let unwrapped = packets::unwrap(limit as usize, packet);
-    let numbers = unwrapped_numbers(unwrapped);
-    put(answer, &numbers);
-    unwrapped_refusal(unwrapped)
+    let said = unwrapped_said(packets::unwrap(limit as usize, packet));
+    tell(answer, &said)
 }

@@ -14,11 +14,10 @@ returns c =
 
 returns-2 : tie.Need-returns-2
 returns-2 c =
-    let at-put = c .before .before in
-    let at-keep = at-put .before .before .before .before .before in
-    let at-numbers = at-keep .before .before .before in
-    let at-state = at-numbers .before in
-    let at-octets = at-state .before .before in
+    let at-leave = c .before .before .before .before in
+    let at-said = at-leave .before .before .before .before .before in
+    let at-state = at-said .before in
+    let at-octets = at-state .before in
     let at-read = at-octets .before in
     let at-record = at-read .before in
     let at-settings = at-record .before .before in
@@ -28,8 +27,8 @@ returns-2 c =
     read-done (a .settings .now) (a .«record» .now) (a .frame .now) (a .answer .now)
     (at-settings .bit-settings-of .result) (at-record .reader-of .result) (at-read .read .result)
     (sym (at-short .bits-short .ensures) ∙ at-if1 .if1 .left) (at-settings .bit-settings-of .ensures) (at-record .reader-of .ensures)
-    (at-read .read .ensures) (at-octets .leading-octets .ensures) (at-state .reader-numbers .ensures) (at-numbers .read-numbers .ensures)
-    (at-keep .keep .ensures) (at-put .put .ensures)
+    (at-read .read .ensures) (at-octets .leading-octets .ensures) (at-state .reader-numbers .ensures) (at-said .read-said .ensures)
+    (at-leave .leave .ensures)
 
 pub itz-bits-read-spec : {M : Type 1} → statement M
 itz-bits-read-spec =
@@ -41,13 +40,11 @@ itz-bits-read-spec =
     (λ c κs. search needs)
     (λ c κs. search needs)
     (λ c κs. search needs)
-    (λ c. search needs)
     (λ c κs. search needs)
     (λ c κs. search needs)
     (λ c. search needs)
-    (λ c κs. search needs)
     (λ c. search needs)
     (λ c κs. search needs)
-    (λ c. c .before .before .before .before .before .before .«record» .given)
+    (λ c. c .before .before .before .«record» .given)
     (λ c. c .before .answer .given)
     returns-2)

@@ -14,21 +14,19 @@ returns c =
 
 returns-2 : tie.Need-returns-2
 returns-2 c =
-    let at-put = c .before .before in
-    let at-keep = at-put .before .before .before .before .before in
-    let at-numbers = at-keep .before .before .before in
-    let at-refusal = at-numbers .before .before in
-    let at-enter = at-refusal .before in
-    let at-record = at-enter .before in
+    let at-leave = c .before .before .before .before in
+    let at-state = at-leave .before .before .before .before .before in
+    let at-said = at-state .before in
+    let at-call = at-said .before in
+    let at-record = at-call .before in
     let at-settings = at-record .before .before in
     let at-if1 = at-settings .before in
     let at-short = at-if1 .before in
     let a = at-short .before .before .before .before .before .before .args in
     enter-done (a .settings .now) (a .«record» .now) (a .store .now) (a .frame .now) (a .answer .now)
-    (at-settings .settings-of .result) (at-record .extractor-of .result) (at-enter .enter .result)
-    (sym (at-short .is-short .ensures) ∙ at-if1 .if1 .left) (at-settings .settings-of .ensures) (at-record .extractor-of .ensures) (at-enter .enter .ensures)
-    (at-refusal .entered-refusal .ensures) (at-numbers .before .extractor-numbers .ensures) (at-numbers .enter-numbers .ensures)
-    (at-keep .keep .ensures) (at-put .put .ensures)
+    (at-settings .settings-of .result) (at-record .extractor-of .result) (at-call .enter .result)
+    (sym (at-short .is-short .ensures) ∙ at-if1 .if1 .left) (at-settings .settings-of .ensures) (at-record .extractor-of .ensures) (at-call .enter .ensures)
+    (at-state .extractor-numbers .ensures) (at-said .entered-said .ensures) (at-leave .leave .ensures)
 
 pub itz-extractor-enter-spec : {M : Type 1} → statement M
 itz-extractor-enter-spec =
@@ -41,11 +39,9 @@ itz-extractor-enter-spec =
     (λ c κs. search needs)
     (λ c κs. search needs)
     (λ c κs. search needs)
-    (λ c κs. search needs)
+    (λ c. search needs)
     (λ c. search needs)
     (λ c κs. search needs)
-    (λ c. search needs)
-    (λ c κs. search needs)
-    (λ c. c .before .before .before .before .before .before .«record» .given)
+    (λ c. c .before .before .before .«record» .given)
     (λ c. c .before .answer .given)
     returns-2)

@@ -14,21 +14,19 @@ returns c =
 
 returns-2 : tie.Need-returns-2
 returns-2 c =
-    let at-put = c .before .before in
-    let at-keep = at-put .before .before .before .before .before in
-    let at-numbers = at-keep .before .before .before in
-    let at-refusal = at-numbers .before .before in
-    let at-step = at-refusal .before .before .before in
-    let at-record = at-step .before .before in
+    let at-leave = c .before .before .before .before in
+    let at-state = at-leave .before .before .before .before .before in
+    let at-said = at-state .before in
+    let at-call = at-said .before .before .before in
+    let at-record = at-call .before .before in
     let at-settings = at-record .before .before in
     let at-if1 = at-settings .before in
     let at-short = at-if1 .before in
     let a = at-short .before .before .before .before .before .before .args in
     step-done (a .settings .now) (a .«record» .now) (a .store .now) (a .frame .now) (a .answer .now)
-    (at-settings .settings-of .result) (at-record .extractor-of .result) (at-step .step .result)
-    (sym (at-short .is-short .ensures) ∙ at-if1 .if1 .left) (at-settings .settings-of .ensures) (at-record .extractor-of .ensures) (at-step .step .ensures)
-    (at-refusal .found-refusal .ensures) (at-numbers .before .extractor-numbers .ensures) (at-numbers .step-numbers .ensures)
-    (at-keep .keep .ensures) (at-put .put .ensures)
+    (at-settings .settings-of .result) (at-record .extractor-of .result) (at-call .step .result)
+    (sym (at-short .is-short .ensures) ∙ at-if1 .if1 .left) (at-settings .settings-of .ensures) (at-record .extractor-of .ensures) (at-call .step .ensures)
+    (at-state .extractor-numbers .ensures) (at-said .step-said .ensures) (at-leave .leave .ensures)
 
 pub itz-extractor-step-spec : {M : Type 1} → statement M
 itz-extractor-step-spec =
@@ -41,12 +39,10 @@ itz-extractor-step-spec =
     (λ c κs. search needs)
     (λ c κs. search needs)
     (λ c κs. search needs)
-    (λ c κs. search needs)
+    (λ c. search needs)
     (λ c. search needs)
     (λ c κs. search needs)
-    (λ c. search needs)
-    (λ c κs. search needs)
-    (λ c. c .before .before .before .before .before .before .«record» .given)
-    (λ c. c .before .before .before .before .before .before .before .before .before .before .before .before .before .before .store .given)
+    (λ c. c .before .before .before .«record» .given)
+    (λ c. c .before .before .before .before .before .before .before .before .before .before .before .before .store .given)
     (λ c. c .before .answer .given)
     returns-2)

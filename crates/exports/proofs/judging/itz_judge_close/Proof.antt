@@ -14,9 +14,9 @@ returns c =
 
 returns-2 : tie.Need-returns-2
 returns-2 c =
-    let at-put = c .before .before .before in
-    let at-numbers = at-put .before .before .before in
-    let at-close = at-numbers .before in
+    let at-tell = c .before .before in
+    let at-said = at-tell .before .before .before in
+    let at-close = at-said .before in
     let at-record = at-close .before in
     let at-settings = at-record .before in
     let at-if1 = at-settings .before in
@@ -25,7 +25,7 @@ returns-2 c =
     close-done (a .settings .now) (a .«record» .now) (a .store .now) (a .answer .now)
     (at-settings .settings-of .result) (at-record .judge-of .result) (at-close .close .result)
     (sym (at-short .is-short .ensures) ∙ at-if1 .if1 .left) (at-settings .settings-of .ensures) (at-record .judge-of .ensures) (at-close .close .ensures)
-    (c .closed-refusal .ensures) (at-numbers .close-numbers .ensures) (at-put .put .ensures)
+    (at-said .closed-said .ensures) (at-tell .tell .ensures .0) (at-tell .tell .ensures .1)
 
 pub itz-judge-close-spec : {M : Type 1} → statement M
 itz-judge-close-spec =
@@ -39,6 +39,5 @@ itz-judge-close-spec =
     (λ c κs. search needs)
     (λ c. search needs)
     (λ c κs. search needs)
-    (λ c κs. search needs)
-    (λ c. c .before .before .answer .given)
+    (λ c. c .before .answer .given)
     returns-2)

@@ -16,12 +16,10 @@ returns c =
 
 returns-2 : tie.Need-returns-2
 returns-2 c =
-    let at-put = c .before .before in
-    let at-keep = at-put .before .before .before .before .before in
-    let at-numbers = at-keep .before .before .before in
-    let at-next = at-numbers .before in
-    let at-refusal = at-next .before in
-    let at-call = at-refusal .before .before .before in
+    let at-leave = c .before .before .before .before in
+    let at-said = at-leave .before .before .before .before .before in
+    let at-next = at-said .before in
+    let at-call = at-next .before .before .before in
     let at-record = at-call .before .before in
     let at-settings = at-record .before .before in
     let at-if1 = at-settings .before in
@@ -30,7 +28,7 @@ returns-2 c =
     mux-done to-flush 1 flush-numbers (a .settings .now) (a .«record» .now) (a .frame .now) (a .answer .now)
     (at-settings .settings-of .result) (at-record .mux-of .result) (at-call .flush .result)
     (sym (at-short .is-short .ensures) ∙ at-if1 .if1 .left) (at-settings .settings-of .ensures) (at-record .mux-of .ensures) (at-call .flush .ensures)
-    (at-refusal .reply-refusal .ensures) (at-next .next-mux .ensures) (at-numbers .flush-numbers .ensures) (at-keep .keep .ensures) (at-put .put .ensures)
+    (at-next .next-mux .ensures) (at-said .flush-said .ensures) (at-leave .leave .ensures)
 
 pub itz-mux-flush-spec : {M : Type 1} → statement M
 itz-mux-flush-spec =
@@ -43,12 +41,10 @@ itz-mux-flush-spec =
     (λ c κs. search needs)
     (λ c κs. search needs)
     (λ c κs. search needs)
-    (λ c κs. search needs)
+    (λ c. search needs)
     (λ c. search needs)
     (λ c κs. search needs)
-    (λ c. search needs)
-    (λ c κs. search needs)
-    (λ c. c .before .before .before .before .before .before .«record» .given)
-    (λ c. c .before .before .before .before .before .before .before .before .before .before .before .before .before .before .frame .given)
+    (λ c. c .before .before .before .«record» .given)
+    (λ c. c .before .before .before .before .before .before .before .before .before .before .before .before .frame .given)
     (λ c. c .before .answer .given)
     returns-2)

@@ -1,8 +1,10 @@
 -- `exports::mux::itz_mux_idle` meets its contract: the arrays' lengths are tested first; then the numbers are those of the library's answer.
 -- Assumes nothing.
-use mathlib.Core.Path.{refl, sym, _∙_}
-use mathlib.Core.List.{[]}
-use Rattle.octets.specs.Basics.{over, laid}
+use mathlib.Core.Path.{refl, sym, ap, _∙_}
+use mathlib.Core.List.{List, [], _∷_}
+use Prim.Native.Nat.{ℕ}
+use lib.ListN.{getD}
+use Rattle.octets.specs.Basics.{laid, over}
 use Rattle.multiplexer.specs.Calls.{to-idle}
 use Rattle.exports.specs.Mux.{no-numbers}
 use Rattle.exports.proofs.Muxes.{mux-short, mux-done}
@@ -20,9 +22,9 @@ returns-2 : tie.Need-returns-2
 unfolding laid over
 returns-2 c =
     let at-keep = c .before .before in
-    let at-next = at-keep .before .before .before in
-    let at-refusal = at-next .before in
-    let at-call = at-refusal .before .before .before in
+    let at-said = at-keep .before .before .before in
+    let at-next = at-said .before in
+    let at-call = at-next .before .before .before in
     let at-record = at-call .before .before in
     let at-settings = at-record .before .before in
     let at-if1 = at-settings .before in
@@ -31,7 +33,7 @@ returns-2 c =
     mux-done to-idle 0 no-numbers (a .settings .now) (a .«record» .now) (a .frame .now) []
     (at-settings .settings-of .result) (at-record .mux-of .result) (at-call .idle-zone .result)
     (sym (at-short .is-short .ensures) ∙ at-if1 .if1 .left) (at-settings .settings-of .ensures) (at-record .mux-of .ensures) (at-call .idle-zone .ensures)
-    (at-refusal .reply-refusal .ensures) (at-next .next-mux .ensures) (λ frame. refl) (at-keep .keep .ensures) refl
+    (at-next .next-mux .ensures) (λ frame. ap (λ (ns : List ℕ). getD ns 0 0 ∷ []) (at-said .put-said .ensures frame)) (rw (at-keep .keep .ensures) refl)
 
 pub itz-mux-idle-spec : {M : Type 1} → statement M
 itz-mux-idle-spec =
@@ -44,6 +46,7 @@ itz-mux-idle-spec =
     (λ c κs. search needs)
     (λ c κs. search needs)
     (λ c κs. search needs)
+    (λ c. search needs)
     (λ c. search needs)
     (λ c κs. search needs)
     (λ c. c .before .«record» .given)

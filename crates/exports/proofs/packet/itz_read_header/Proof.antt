@@ -13,11 +13,11 @@ returns c = rw (lt-ltb _ _ (c .if1 .taken))
 returns-2 : tie.Need-returns-2
 unfolding header-leaves
 returns-2 c =
-    let at-put = c .before .before .before in
-    let at-numbers = at-put .before .before .before in
-    let at-call = at-numbers .before in
+    let at-tell = c .before .before in
+    let at-said = at-tell .before .before .before in
+    let at-call = at-said .before in
     rw
-    (le-ltb _ _ (at-call .before .if1 .left), c .header-refusal .ensures, at-put .put .ensures, at-numbers .header-numbers .ensures, at-call .read-header .ensures)
+    (le-ltb _ _ (at-call .before .if1 .left), at-tell .tell .ensures .0, at-tell .tell .ensures .1, at-said .header-said .ensures, at-call .read-header .ensures)
 
 pub itz-read-header-spec : {M : Type 1} → statement M
 itz-read-header-spec =
@@ -28,6 +28,5 @@ itz-read-header-spec =
     (λ c κs. search needs)
     (λ c. search needs)
     (λ c κs. search needs)
-    (λ c κs. search needs)
-    (λ c. c .before .before .answer .given)
+    (λ c. c .before .answer .given)
     returns-2)

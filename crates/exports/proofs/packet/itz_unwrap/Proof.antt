@@ -13,11 +13,11 @@ returns c = rw (lt-ltb _ _ (c .if1 .taken))
 returns-2 : tie.Need-returns-2
 unfolding unwrap-leaves
 returns-2 c =
-    let at-put = c .before .before .before in
-    let at-numbers = at-put .before .before .before in
-    let at-call = at-numbers .before in
+    let at-tell = c .before .before in
+    let at-said = at-tell .before .before .before in
+    let at-call = at-said .before in
     rw
-    (le-ltb _ _ (at-call .before .if1 .left), c .unwrapped-refusal .ensures, at-put .put .ensures, at-numbers .unwrapped-numbers .ensures, at-call .unwrap .ensures)
+    (le-ltb _ _ (at-call .before .if1 .left), at-tell .tell .ensures .0, at-tell .tell .ensures .1, at-said .unwrapped-said .ensures, at-call .unwrap .ensures)
 
 pub itz-unwrap-spec : {M : Type 1} → statement M
 itz-unwrap-spec =
@@ -28,6 +28,5 @@ itz-unwrap-spec =
     (λ c κs. search needs)
     (λ c. search needs)
     (λ c κs. search needs)
-    (λ c κs. search needs)
-    (λ c. c .before .before .answer .given)
+    (λ c. c .before .answer .given)
     returns-2)

@@ -14,15 +14,16 @@ returns c = rw (lt-ltb _ _ (c .if1 .taken))
 
 returns-2 : tie.Need-returns-2
 returns-2 c =
-    let at-put = c .before .before .before in
-    let at-numbers = at-put .before .before .before in
-    let at-wrap = at-numbers .before .before .before in
-    let at-if1 = at-wrap .before .before .before .before in
+    let at-tell = c .before .before in
+    let at-said = at-tell .before .before .before in
+    let at-wrap = at-said .before .before .before in
+    let at-octets = at-wrap .before .before in
+    let at-if1 = at-octets .before .before in
     let a = at-if1 .before .before .before .before .args in
     let out = at-wrap .wrap .last .1 .1 .1 .1 .0 in
-    rw (c .wrapped-refusal .ensures out, at-put .put .ensures, at-numbers .wrapped-numbers .ensures out)
+    rw (at-tell .tell .ensures .0, at-tell .tell .ensures .1, at-said .wrapped-said .ensures out)
     (wrap-done (a .limit) (a .protocol) (a .extension) (a .«data» .now) (a .packet .now) (a .answer .now) _ out (at-if1 .if1 .left)
-    (rw (at-wrap .before .before .before .octet-of .ensures, at-wrap .before .before .octet-of2 .ensures) at (at-wrap .wrap .ensures)))
+    (rw (at-octets .before .octet-of .ensures, at-octets .octet-of2 .ensures) at (at-wrap .wrap .ensures)))
 
 pub itz-wrap-spec : {M : Type 1} → statement M
 itz-wrap-spec =
@@ -35,7 +36,6 @@ itz-wrap-spec =
     (λ c κs. search needs)
     (λ c. search needs)
     (λ c κs. search needs)
-    (λ c κs. search needs)
-    (λ c. c .before .before .before .before .before .before .before .before .packet .given)
-    (λ c. c .before .before .answer .given)
+    (λ c. c .before .before .before .before .before .before .before .packet .given)
+    (λ c. c .before .answer .given)
     returns-2)
