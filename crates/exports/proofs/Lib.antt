@@ -1,3 +1,4 @@
+mod Formed
 mod Wraps
 mod Leaving
 mod Muxes

@@ -1,10 +1,10 @@
 -- The extractor in the numbers of the C interface.
-use Prim.Native.Nat.{ℕ}
+use Prim.Native.Nat.{ℕ, _+_}
 use mathlib.Core.List.{List, [], _∷_}
 use mathlib.Core.Bool.{not}
 use lib.ListN.{length, getD}
-use lib.Dec.{eqb}
-use Rattle.octets.specs.Basics.{pick}
+use lib.Dec.{leb, ltb, eqb}
+use Rattle.octets.specs.Basics.{pick, or}
 use Rattle.extractor.specs.Answers.{EnterNumbers, EnterSaid, enter-answer, StepNumbers, StepSaid, step-answer}
 use Rattle.extractor.specs.declared.Extractor.{Extractor}
 use Rattle.extractor.specs.declared.Extractor.the-variants.{Fresh, Astray, InStep, Walking, Leaving}
@@ -68,3 +68,23 @@ step-leaves settings numbers store frame answer =
     pick (short (length settings) (length numbers) (length answer) 4)
     (left 2 numbers store answer)
     (left refusal (kept refusal numbers (extractor-numbers (a .next))) (a .store) (told answer (step-numbers (a .answer))))
+
+-- ---- the part that a step found
+
+-- a part of a buffer of so many octets at this place: the place, its start and its size, all 0 where it would run past the end
+unfoldable pub part-numbers : ℕ → ℕ → ℕ → ℕ → List ℕ
+part-numbers place room start size = pick (leb (start + size) room) (place ∷ start ∷ size ∷ []) (0 ∷ 0 ∷ 0 ∷ [])
+
+-- the part that a step's answer names: 1 in the frame, 2 in the store; none at any other place
+unfoldable pub show-numbers : List ℕ → List ℕ → List ℕ → List ℕ
+show-numbers step frame store =
+    let start : ℕ = getD step 2 0 in
+    let size : ℕ = getD step 3 0 in
+    pick (eqb (getD step 1 0) 1) (part-numbers 1 (length frame) start size)
+    (pick (eqb (getD step 1 0) 2) (part-numbers 2 (length store) start size) (0 ∷ 0 ∷ 0 ∷ []))
+
+unfoldable pub show-leaves : List ℕ → List ℕ → List ℕ → List ℕ → Left
+show-leaves step frame store answer =
+    pick (or (ltb (length step) 4) (ltb (length answer) 3))
+    (left 2 [] [] answer)
+    (left 0 [] [] (told answer (show-numbers step frame store)))

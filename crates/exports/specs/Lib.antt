@@ -1,5 +1,6 @@
 pub mod Left
 pub mod Packet
+pub mod Spaces
 pub mod Channel
 pub mod Mux
 pub mod Extract

@@ -2,7 +2,9 @@
 use Prim.Native.Nat.{ℕ}
 use mathlib.Core.List.{List, [], _∷_}
 use lib.ListN.{length, getD}
+use lib.Dec.{ltb}
 use Rattle.octets.specs.Basics.{pick}
+use Rattle.multiplexer.specs.Multiplex.{begun}
 use Rattle.multiplexer.specs.Calls.{Call, Answer, answer}
 use Rattle.multiplexer.specs.declared.Mux.{Mux}
 use Rattle.exports.specs.Left.{Left, left, told, kept, bit, count-of}
@@ -14,6 +16,10 @@ mux-numbers m = m .count ∷ m .filled ∷ m .first ∷ m .taken ∷ []
 
 unfoldable pub mux-of : List ℕ → Mux
 mux-of ns = record { count = count-of (getD ns 0 0); filled = getD ns 1 0; first = getD ns 2 0; taken = getD ns 3 0 }
+
+-- the first record, laid into an array
+unfoldable pub begin-leaves : List ℕ → Left
+begin-leaves numbers = pick (ltb (length numbers) 4) (left 2 numbers [] []) (left 0 (told numbers (mux-numbers begun)) [] [])
 
 -- what a put answers: whether the zone is full, and whether the packet is taken
 unfoldable pub put-numbers : Answer → List ℕ

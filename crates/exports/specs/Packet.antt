@@ -1,9 +1,10 @@
--- Packet headers, wrapping and unwrapping, in the numbers of the C interface. An answer's array that is short is refused first.
-use Prim.Native.Nat.{ℕ}
+-- Packets in the numbers of the C interface. An array that is short is refused first.
+use Prim.Native.Nat.{ℕ, _+_}
 use mathlib.Core.List.{List, [], _∷_}
-use lib.ListN.{length}
-use lib.Dec.{ltb, eqb}
-use Rattle.octets.specs.Basics.{pick}
+use lib.ListN.{length, getD}
+use lib.Dec.{leb, ltb, eqb}
+use Rattle.octets.specs.Basics.{pick, or}
+use Rattle.packets.specs.Packet.{limit-in-range, well-formed}
 use Rattle.packets.specs.Header.{Reading, reading}
 use Rattle.packets.specs.Wrap.{Wrapping, wrapping, Unwrapping, unwrapping}
 use Rattle.exports.specs.Left.{Left, left, told, bit}
@@ -29,6 +30,16 @@ header-leaves limit octets answer =
     let r : Reading = reading limit octets in
     pick (ltb (length answer) 6) (left 2 [] [] answer) (left (r .refusal) [] [] (told answer (header-numbers r)))
 
+-- 1 well formed, 2 not; nothing under a limit out of range
+unfoldable pub formed-numbers : ℕ → List ℕ → List ℕ
+formed-numbers limit packet = pick (limit-in-range limit) (pick {A = ℕ} (well-formed limit packet) 1 2) 0 ∷ []
+
+unfoldable pub formed-leaves : ℕ → List ℕ → List ℕ → Left
+formed-leaves limit packet answer =
+    pick (ltb (length answer) 1)
+    (left 2 [] [] answer)
+    (left (pick (limit-in-range limit) 0 1) [] [] (told answer (formed-numbers limit packet)))
+
 -- the packet's length
 unfoldable pub wrap-numbers : Wrapping → List ℕ
 wrap-numbers w = w .total ∷ []
@@ -46,3 +57,16 @@ unfoldable pub unwrap-leaves : ℕ → List ℕ → List ℕ → Left
 unwrap-leaves limit packet answer =
     let u : Unwrapping = unwrapping limit packet in
     pick (ltb (length answer) 4) (left 2 [] [] answer) (left (u .refusal) [] [] (told answer (unwrap-numbers u)))
+
+-- where the data unit of such an answer lies in a packet, its start and its size; 0 and 0 where it would run past the end
+unfoldable pub unit-numbers : List ℕ → List ℕ → List ℕ
+unit-numbers unwrapped packet =
+    let start : ℕ = getD unwrapped 2 0 in
+    let size : ℕ = getD unwrapped 3 0 in
+    pick (leb (start + size) (length packet)) (start ∷ size ∷ []) (0 ∷ 0 ∷ [])
+
+unfoldable pub unit-leaves : List ℕ → List ℕ → List ℕ → Left
+unit-leaves unwrapped packet answer =
+    pick (or (ltb (length unwrapped) 4) (ltb (length answer) 2))
+    (left 2 [] [] answer)
+    (left 0 [] [] (told answer (unit-numbers unwrapped packet)))

@@ -2,17 +2,26 @@
 ghost use mathlib.Core.Path.{_≡_};
 ghost use Prim.Native.Nat.{ℕ};
 ghost use mathlib.Core.List.{List, [], _∷_};
+ghost use lib.ListN.{length};
 ghost use Rattle.extractor.specs.Answers.{entered-numbers, packet-or-idle, found-numbers};
 ghost use Rattle.exports.specs.Left.{left};
-ghost use Rattle.exports.specs.Extract.{unreached, extractor-with, extractor-of, extractor-numbers, enter-numbers, enter-leaves, step-numbers, step-leaves};
+ghost use Rattle.exports.specs.Extract.{unreached, extractor-with, extractor-of, extractor-numbers, enter-numbers, enter-leaves, step-numbers, step-leaves, part-numbers, show-numbers, show-leaves};
 use crate::arrays::count_of;
 use crate::arrays::entry;
+use crate::arrays::inside;
 use crate::arrays::leave;
+use crate::arrays::put;
 use crate::channel::is_short;
 use crate::channel::settings_of;
 use extractor::Entered;
 use extractor::Extractor;
 use extractor::Found;
+
+const ENTERED: usize = 6;
+
+const STEP: usize = 4;
+
+const SHOWN: usize = 3;
 
 // A record that no call reaches.
 fn unreached() -> Extractor
@@ -101,7 +110,7 @@ pub extern "C" fn itz_extractor_enter(
 ) -> u64
     ensures { λ r. ⌜ left r (now («record» .exit)) [] (now (answer .exit)) ≡ enter-leaves (now (settings .entry)) (now («record» .entry)) (now (store .entry)) (now (frame .entry)) (now (answer .entry)) ⌝ }
 {
-    if is_short(settings.len(), record.len(), answer.len(), 6) {
+    if is_short(settings.len(), record.len(), answer.len(), ENTERED) {
         return 2;
     }
     let entering = extractor::enter(settings_of(settings), extractor_of(record), store, frame);
@@ -143,7 +152,7 @@ pub extern "C" fn itz_extractor_step(
 ) -> u64
     ensures { λ r. ⌜ left r (now («record» .exit)) (now (store .exit)) (now (answer .exit)) ≡ step-leaves (now (settings .entry)) (now («record» .entry)) (now (store .entry)) (now (frame .entry)) (now (answer .entry)) ⌝ }
 {
-    if is_short(settings.len(), record.len(), answer.len(), 4) {
+    if is_short(settings.len(), record.len(), answer.len(), STEP) {
         return 2;
     }
     let moved = extractor::step(settings_of(settings), extractor_of(record), store, frame);
@@ -152,4 +161,43 @@ pub extern "C" fn itz_extractor_step(
     let said = step_said(found);
     let state = extractor_numbers(next);
     leave(record, &state, answer, &said)
+}
+
+// A part of a buffer of so many octets at this place; all 0 where it would run past the end.
+fn part_numbers(place: u64, room: usize, start: u64, size: u64) -> [u64; 3]
+    ensures { λ r. ⌜ r ≡ part-numbers place room start size ⌝ }
+{
+    if inside(room, start as usize, size as usize) {
+        [place, start, size]
+    } else {
+        [0; 3]
+    }
+}
+
+// The part that a step's answer names.
+fn show_numbers(step: &[u64], frame: usize, store: usize) -> [u64; 3]
+    ensures { λ r. ⌜ ((f os : List ℕ) → frame ≡ length f → store ≡ length os → r ≡ show-numbers (now (step .entry)) f os) ⌝ }
+{
+    let place = entry(step, 1);
+    let start = entry(step, 2);
+    let size = entry(step, 3);
+    if place == 1 {
+        return part_numbers(1, frame, start, size);
+    }
+    if place == 2 {
+        return part_numbers(2, store, start, size);
+    }
+    [0; 3]
+}
+
+#[no_mangle]
+pub extern "C" fn itz_show(step: &[u64], frame: &[u8], store: &[u8], answer: &mut [u64]) -> u64
+    ensures { λ r. ⌜ left r [] [] (now (answer .exit)) ≡ show-leaves (now (step .entry)) (now (frame .entry)) (now (store .entry)) (now (answer .entry)) ⌝ }
+{
+    if (step.len() < STEP) | (answer.len() < SHOWN) {
+        return 2;
+    }
+    let numbers = show_numbers(step, frame.len(), store.len());
+    put(answer, &numbers);
+    0
 }

@@ -5,16 +5,19 @@ ghost use mathlib.Core.List.{List, [], _∷_};
 ghost use Rattle.octets.specs.Basics.{pick};
 ghost use Rattle.multiplexer.specs.Calls.{to-put, to-flush, to-idle, answers};
 ghost use Rattle.exports.specs.Left.{left};
-ghost use Rattle.exports.specs.Mux.{mux-of, mux-numbers, put-numbers, flush-numbers, no-numbers, mux-leaves};
+ghost use Rattle.exports.specs.Mux.{mux-of, mux-numbers, begin-leaves, put-numbers, flush-numbers, no-numbers, mux-leaves};
 use crate::arrays::count_of;
 use crate::arrays::entry;
 use crate::arrays::flag;
 use crate::arrays::keep;
 use crate::arrays::leave;
+use crate::arrays::put;
 use crate::channel::is_short;
 use crate::channel::settings_of;
 use multiplexer::Mux;
 use multiplexer::Reply;
+
+const MUX: usize = 4;
 
 fn mux_of(numbers: &[u64]) -> Mux
     ensures { λ r. ⌜ r ≡ mux-of (now (numbers .entry)) ⌝ }
@@ -36,6 +39,18 @@ fn mux_numbers(m: Mux) -> [u64; 4]
         m.first as u64,
         m.taken as u64,
     ]
+}
+
+#[no_mangle]
+pub extern "C" fn itz_mux_begin(record: &mut [u64]) -> u64
+    ensures { λ r. ⌜ left r (now («record» .exit)) [] [] ≡ begin-leaves (now («record» .entry)) ⌝ }
+{
+    if record.len() < MUX {
+        return 2;
+    }
+    let numbers = mux_numbers(multiplexer::begin());
+    put(record, &numbers);
+    0
 }
 
 // The record to go on with.

@@ -1,13 +1,19 @@
-// Packet headers, wrapping and unwrapping.
+// Packets: their headers, wrapping and unwrapping.
 ghost use mathlib.Core.Path.{_≡_};
 ghost use Prim.Native.Nat.{ℕ};
 ghost use mathlib.Core.List.{List, [], _∷_};
+ghost use lib.ListN.{length};
+ghost use lib.Dec.{eqb};
+ghost use Rattle.octets.specs.Basics.{pick};
 ghost use Rattle.packets.specs.Header.{answer, version-of};
 ghost use Rattle.packets.specs.Wrap.{wraps, unwraps};
 ghost use Rattle.exports.specs.Left.{left};
-ghost use Rattle.exports.specs.Packet.{kind-number, header-numbers, header-leaves, wrap-numbers, wrap-leaves, unwrap-numbers, unwrap-leaves};
+ghost use Rattle.exports.specs.Packet.{kind-number, header-numbers, header-leaves, formed-leaves, wrap-numbers, wrap-leaves, unwrap-numbers, unwrap-leaves, unit-numbers, unit-leaves};
+use crate::arrays::entry;
 use crate::arrays::flag;
+use crate::arrays::inside;
 use crate::arrays::octet_of;
+use crate::arrays::put;
 use crate::arrays::tell;
 use packets::Header;
 use packets::Kind;
@@ -16,9 +22,13 @@ use packets::Wrapped;
 
 const HEADER: usize = 6;
 
+const FORMED: usize = 1;
+
 const WRAPPED: usize = 1;
 
 const UNWRAPPED: usize = 4;
+
+const UNIT: usize = 2;
 
 fn kind_number(kind: Kind) -> u64
     ensures { λ r. ⌜ r ≡ kind-number (version-of kind) ⌝ }
@@ -64,6 +74,30 @@ pub extern "C" fn itz_read_header(limit: u64, octets: &[u8], answer: &mut [u64])
     }
     let said = header_said(packets::read_header(limit as usize, octets));
     tell(answer, &said)
+}
+
+// What a packet is: 1 well formed, 2 not; 0 where the limit is refused.
+fn formed_number(refusal: u64, formed: bool) -> u64
+    ensures { λ r. ⌜ r ≡ pick (eqb refusal 0) (pick {A = ℕ} formed 1 2) 0 ⌝ }
+{
+    if refusal != 0 {
+        return 0;
+    }
+    if formed { 1 } else { 2 }
+}
+
+#[no_mangle]
+pub extern "C" fn itz_well_formed(limit: u64, packet: &[u8], answer: &mut [u64]) -> u64
+    ensures { λ r. ⌜ left r [] [] (now (answer .exit)) ≡ formed-leaves limit (now (packet .entry)) (now (answer .entry)) ⌝ }
+{
+    if answer.len() < FORMED {
+        return 2;
+    }
+    let refusal = header_said(packets::read_header(limit as usize, packet))[0];
+    let formed = packets::well_formed(limit as usize, packet);
+    let numbers = [formed_number(refusal, formed)];
+    put(answer, &numbers);
+    refusal
 }
 
 fn wrapped_said(wrapped: Wrapped) -> [u64; 2]
@@ -124,4 +158,29 @@ pub extern "C" fn itz_unwrap(limit: u64, packet: &[u8], answer: &mut [u64]) -> u
     }
     let said = unwrapped_said(packets::unwrap(limit as usize, packet));
     tell(answer, &said)
+}
+
+// Where the data unit of such an answer lies in a packet of so many octets.
+fn unit_numbers(unwrapped: &[u64], room: usize) -> [u64; 2]
+    ensures { λ r. ⌜ ((packet : List ℕ) → room ≡ length packet → r ≡ unit-numbers (now (unwrapped .entry)) packet) ⌝ }
+{
+    let start = entry(unwrapped, 2);
+    let size = entry(unwrapped, 3);
+    if inside(room, start as usize, size as usize) {
+        [start, size]
+    } else {
+        [0; 2]
+    }
+}
+
+#[no_mangle]
+pub extern "C" fn itz_unit_part(unwrapped: &[u64], packet: &[u8], answer: &mut [u64]) -> u64
+    ensures { λ r. ⌜ left r [] [] (now (answer .exit)) ≡ unit-leaves (now (unwrapped .entry)) (now (packet .entry)) (now (answer .entry)) ⌝ }
+{
+    if (unwrapped.len() < UNWRAPPED) | (answer.len() < UNIT) {
+        return 2;
+    }
+    let numbers = unit_numbers(unwrapped, packet.len());
+    put(answer, &numbers);
+    0
 }

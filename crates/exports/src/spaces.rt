@@ -1,0 +1,92 @@
+// Headers of space packets.
+ghost use mathlib.Core.Path.{_≡_};
+ghost use mathlib.Core.List.{[], _∷_};
+ghost use Rattle.space.specs.Space.{space-reads};
+ghost use Rattle.exports.specs.Left.{left};
+ghost use Rattle.exports.specs.Spaces.{space-numbers, read-space-leaves, half-of, version-for, header-of, write-space-leaves};
+use crate::arrays::entry;
+use crate::arrays::octet_of;
+use crate::arrays::tell;
+use space::SpaceHeader;
+use space::SpaceRead;
+
+const SPACE: usize = 8;
+
+const HEADER: usize = 7;
+
+// What the length field says less than the packet's length.
+const LENGTH_LESS: u64 = 7;
+
+// An answer's refusal, and the numbers behind it.
+fn space_said(read: SpaceRead) -> [u64; 9]
+    ensures { λ r. ⌜ r ≡ space-reads read .refusal ∷ space-numbers (space-reads read) ⌝ }
+{
+    match read {
+        SpaceRead::Refused { refusal } => [refusal as u64, 0, 0, 0, 0, 0, 0, 0, 0],
+        SpaceRead::Read { header } => [
+            0,
+            header.length as u64 + LENGTH_LESS,
+            header.version as u64,
+            header.packet_type as u64,
+            header.secondary as u64,
+            header.apid as u64,
+            header.flags as u64,
+            header.count as u64,
+            header.length as u64,
+        ],
+    }
+}
+
+#[no_mangle]
+pub extern "C" fn itz_read_space(octets: &[u8], answer: &mut [u64]) -> u64
+    ensures { λ r. ⌜ left r [] [] (now (answer .exit)) ≡ read-space-leaves (now (octets .entry)) (now (answer .entry)) ⌝ }
+{
+    if answer.len() < SPACE {
+        return 2;
+    }
+    let said = space_said(space::read_space(octets));
+    tell(answer, &said)
+}
+
+// A number as one of 16 bits: one that does not fit is the greatest that does.
+fn half_of(number: u64) -> u16
+    ensures { λ r. ⌜ r ≡ half-of number ⌝ }
+{
+    if number < 65535 { number as u16 } else { 65535 }
+}
+
+// The version: none that can be written, where the length field has no room for its number.
+fn version_for(version: u64, length: u64) -> u8
+    ensures { λ r. ⌜ r ≡ version-for version length ⌝ }
+{
+    if length <= 65535 {
+        octet_of(version)
+    } else {
+        255
+    }
+}
+
+fn header_of(numbers: &[u64]) -> SpaceHeader
+    ensures { λ r. ⌜ r ≡ header-of (now (numbers .entry)) ⌝ }
+{
+    let length = entry(numbers, 6);
+    SpaceHeader {
+        version: version_for(entry(numbers, 0), length),
+        packet_type: octet_of(entry(numbers, 1)),
+        secondary: octet_of(entry(numbers, 2)),
+        apid: half_of(entry(numbers, 3)),
+        flags: octet_of(entry(numbers, 4)),
+        count: half_of(entry(numbers, 5)),
+        length: half_of(length),
+    }
+}
+
+#[no_mangle]
+pub extern "C" fn itz_write_space(header: &[u64], octets: &mut [u8]) -> u64
+    ensures { λ r. ⌜ left r [] (now (octets .exit)) [] ≡ write-space-leaves (now (header .entry)) (now (octets .entry)) ⌝ }
+{
+    if header.len() < HEADER {
+        return 2;
+    }
+    space::write_space(header_of(header), octets) as u64
+}
