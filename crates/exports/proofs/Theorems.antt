@@ -2,12 +2,19 @@
 -- Assumes nothing.
 use mathlib.Core.Path.{_≡_, refl, sym, ap, _∙_}
 use mathlib.Core.List.{List, [], _∷_}
-use Prim.Native.Nat.{ℕ, _+_, _≤_, min}
+use mathlib.Core.Bool.{Bool, true, false}
+use Prim.Native.Nat.{ℕ, _+_, _-_, _≤_, min}
 use native.Mathlib.Omega.{arith}
-use lib.ListN.{length}
-use Rattle.octets.specs.Basics.{over}
+use lib.ListN.{length, take, drop}
+use lib.Dec.{leb}
+use Rattle.octets.specs.Basics.{pick, over, part}
 use Rattle.octets.proofs.Written.{laid-within}
+use Rattle.packets.specs.Wrap.{unwraps, run-of, unit-part}
+use Rattle.packets.specs.declared.wrapping.Unwrapped.{Unwrapped}
 use Rattle.multiplexer.specs.declared.Mux.{Mux}
+use Rattle.extractor.specs.Records.{part-of, shown}
+use Rattle.extractor.specs.Answers.{packet-or-idle, found-numbers}
+use Rattle.extractor.specs.declared.Found.{Found}
 use Rattle.extractor.specs.declared.Extractor.{Extractor}
 use Rattle.extractor.specs.declared.Extractor.the-variants.{Fresh, Astray, InStep, Walking, Leaving}
 use Rattle.judge.specs.declared.Judge.{Judge}
@@ -16,11 +23,12 @@ use Rattle.bitstream.specs.declared.Writer.{Writer}
 use Rattle.bitstream.specs.declared.Reader.{Reader}
 use Rattle.bitstream.specs.declared.Reader.the-variants as reader
 use Rattle.exports.specs.Left.{Left, told}
+use Rattle.exports.specs.Packet.{unwrap-numbers, unit-numbers}
 use Rattle.exports.specs.Mux.{mux-of, mux-numbers}
-use Rattle.exports.specs.Extract.{extractor-with, extractor-of, extractor-numbers}
+use Rattle.exports.specs.Extract.{extractor-with, extractor-of, extractor-numbers, step-numbers, part-numbers, show-numbers}
 use Rattle.exports.specs.Judging.{judge-with, judge-of, judge-numbers}
 use Rattle.exports.specs.Bits.{writer-of, reader-with, reader-of, reader-numbers}
-use Rattle.exports.specs.Statements.{Determined, Word, ExtractorWords, JudgeWords, ReaderWords, StatedAgain}
+use Rattle.exports.specs.Statements.{Determined, Word, ExtractorWords, JudgeWords, ReaderWords, StatedAgain, unit-named, part-named, PartsNamed}
 
 same-parts : {x y : Left} → x ≡ y → ((x .refusal ≡ y .refusal) × (x .numbers ≡ y .numbers)) × ((x .octets ≡ y .octets) × (x .answer ≡ y .answer))
 same-parts e = (
@@ -33,6 +41,31 @@ determined = record { same = λ e f. same-parts (e ∙ sym f) }
 
 uncut : {n : ℕ} → Word n → min n 4294967295 ≡ n
 uncut h = omega arith
+
+-- numbers that are told where a part lies inside name it, and those told elsewhere name nothing
+unit-by : (inside : Bool) (packet : List ℕ) (start size : ℕ)
+    → unit-named packet (pick inside (start ∷ size ∷ []) (0 ∷ 0 ∷ [])) ≡ pick inside (take size (drop start packet)) []
+unit-by true packet start size = refl
+unit-by false packet start size = refl
+
+frame-by : (inside : Bool) (frame store : List ℕ) (start size : ℕ)
+    → part-named frame store (pick inside (1 ∷ start ∷ size ∷ []) (0 ∷ 0 ∷ 0 ∷ [])) ≡ pick inside (take size (drop start frame)) []
+frame-by true frame store start size = refl
+frame-by false frame store start size = refl
+
+store-by : (inside : Bool) (frame store : List ℕ) (start size : ℕ)
+    → part-named frame store (pick inside (2 ∷ start ∷ size ∷ []) (0 ∷ 0 ∷ 0 ∷ [])) ≡ pick inside (take size (drop start store)) []
+store-by true frame store start size = refl
+store-by false frame store start size = refl
+
+none-by : (inside : Bool) (packet : List ℕ) → unit-named packet (pick inside (0 ∷ 0 ∷ []) (0 ∷ 0 ∷ [])) ≡ []
+none-by true packet = refl
+none-by false packet = refl
+
+run-is : (packet : List ℕ) (start size : ℕ)
+    → run-of packet start size ≡ pick (leb (start + size) (length packet)) (take size (drop start packet)) []
+unfolding run-of part
+run-is packet start size = let e : start + size - start ≡ size = omega arith in rw e refl
 
 module _ (array : List ℕ) where
   laid-there : (numbers : List ℕ) → length numbers ≤ length array → told array numbers ≡ over array 0 numbers
@@ -67,3 +100,25 @@ module _ (array : List ℕ) where
 
   pub stated-again : StatedAgain array
   stated-again = record { mux = mux-again; extractor = extractor-again; judge = judge-again; writer = writer-again; reader = reader-again }
+
+  unit-named-by : (u : Unwrapped) (packet : List ℕ) → 4 ≤ length array
+      → unit-named packet (unit-numbers (told array (unwrap-numbers (unwraps u))) packet) ≡ unit-part packet u
+  unfolding unit-numbers unwrap-numbers unwraps unit-part over
+  unit-named-by (Unwrapped.Refused n) packet h = rw (laid-there (0 ∷ 0 ∷ 0 ∷ 0 ∷ []) h) (none-by (leb 0 (length packet)) packet)
+  unit-named-by (Unwrapped.Unit protocol extension start size) packet h =
+      rw (laid-there (protocol ∷ extension ∷ start ∷ size ∷ []) h)
+      (unit-by (leb (start + size) (length packet)) packet start size ∙ sym (run-is packet start size))
+
+  step-named-by : (found : Found) (frame store : List ℕ) → 4 ≤ length array
+      → part-named frame store (show-numbers (told array (step-numbers (found-numbers frame store found))) frame store) ≡ shown frame store found
+  unfolding show-numbers part-numbers step-numbers found-numbers shown part-of over
+  step-named-by (Found.Refused n) frame store h = rw (laid-there (0 ∷ 0 ∷ 0 ∷ 0 ∷ []) h) refl
+  step-named-by (Found.InFrame start size idle) frame store h =
+      rw (laid-there (packet-or-idle idle ∷ 1 ∷ start ∷ size ∷ []) h) (frame-by (leb (start + size) (length frame)) frame store start size)
+  step-named-by (Found.InStore size idle) frame store h =
+      rw (laid-there (packet-or-idle idle ∷ 2 ∷ 0 ∷ size ∷ []) h) (store-by (leb (0 + size) (length store)) frame store 0 size)
+  step-named-by Found.Damaged frame store h = rw (laid-there (3 ∷ 0 ∷ 0 ∷ 0 ∷ []) h) refl
+  step-named-by Found.Spent frame store h = rw (laid-there (4 ∷ 0 ∷ 0 ∷ 0 ∷ []) h) refl
+
+  pub parts-named : PartsNamed array
+  parts-named = record { unit = unit-named-by; step = step-named-by }

@@ -2,8 +2,15 @@
 use mathlib.Core.Path.{_≡_}
 use Prim.Native.Nat.{ℕ, _≤_}
 use mathlib.Core.List.{List, [], _∷_}
-use lib.ListN.{length}
+use lib.ListN.{length, getD, take, drop}
+use lib.Dec.{eqb}
+use Rattle.octets.specs.Basics.{pick}
+use Rattle.packets.specs.Wrap.{unwraps, unit-part}
+use Rattle.packets.specs.declared.wrapping.Unwrapped.{Unwrapped}
 use Rattle.multiplexer.specs.declared.Mux.{Mux}
+use Rattle.extractor.specs.Records.{shown}
+use Rattle.extractor.specs.Answers.{found-numbers}
+use Rattle.extractor.specs.declared.Found.{Found}
 use Rattle.extractor.specs.declared.Extractor.{Extractor}
 use Rattle.extractor.specs.declared.Extractor.the-variants.{Fresh, Astray, InStep, Walking, Leaving}
 use Rattle.judge.specs.declared.Judge.{Judge}
@@ -12,8 +19,9 @@ use Rattle.bitstream.specs.declared.Writer.{Writer}
 use Rattle.bitstream.specs.declared.Reader.{Reader}
 use Rattle.bitstream.specs.declared.Reader.the-variants as reader
 use Rattle.exports.specs.Left.{Left, left, told}
+use Rattle.exports.specs.Packet.{unwrap-numbers, unit-numbers}
 use Rattle.exports.specs.Mux.{mux-of, mux-numbers}
-use Rattle.exports.specs.Extract.{extractor-of, extractor-numbers}
+use Rattle.exports.specs.Extract.{extractor-of, extractor-numbers, step-numbers, show-numbers}
 use Rattle.exports.specs.Judging.{judge-of, judge-numbers}
 use Rattle.exports.specs.Bits.{writer-of, reader-of, reader-numbers}
 
@@ -49,3 +57,19 @@ pub record StatedAgain (array : List ℕ) : Type 0 where
   pub judge : (j : Judge) → 4 ≤ length array → JudgeWords j → judge-of (told array (judge-numbers j)) ≡ j
   pub writer : (w : Writer) → 1 ≤ length array → Word (w .count) → writer-of (told array (w .count ∷ [])) ≡ w
   pub reader : (x : Reader) → 2 ≤ length array → ReaderWords x → reader-of (told array (reader-numbers x)) ≡ x
+
+-- the octets of a packet that a start and a size name
+abbrev pub unit-named : List ℕ → List ℕ → List ℕ
+unit-named packet ns = take (getD ns 1 0) (drop (getD ns 0 0) packet)
+
+-- the octets that a place, a start and a size name: 2 in the store, else in the frame
+abbrev pub part-named : List ℕ → List ℕ → List ℕ → List ℕ
+part-named frame store ns = take (getD ns 2 0) (drop (getD ns 1 0) (pick (eqb (getD ns 0 0) 2) store frame))
+
+-- what is laid into an answer's array by unwrapping or by a step, lent to `itz_unit_part` or `itz_show`, names the very octets that
+-- `unit_part` and `show` hand back for that answer
+pub record PartsNamed (array : List ℕ) : Type 0 where
+  pub unit : (u : Unwrapped) (packet : List ℕ) → 4 ≤ length array
+      → unit-named packet (unit-numbers (told array (unwrap-numbers (unwraps u))) packet) ≡ unit-part packet u
+  pub step : (found : Found) (frame store : List ℕ) → 4 ≤ length array
+      → part-named frame store (show-numbers (told array (step-numbers (found-numbers frame store found))) frame store) ≡ shown frame store found
