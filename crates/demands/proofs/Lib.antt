@@ -11,6 +11,7 @@ pub mod FrameRuns
 pub mod Joins
 pub mod Judging
 pub mod Laid
+pub mod OverC
 pub mod Passed
 pub mod Promised
 pub mod RoundTrips

@@ -4,6 +4,7 @@ pub mod Demand1
 pub mod Demand2
 pub mod Demand2List
 pub mod Demand3
+pub mod OverC
 pub mod Promises
 pub mod RoundTrip
 pub mod SpaceAndPackets

@@ -1,0 +1,106 @@
+-- Demand 2's list and events, and Demand 3, hold of the C calls: their runs are the library's.
+-- Assumes nothing.
+use mathlib.Core.Path.{_≡_, refl, sym, ap, _∙_, subst}
+use mathlib.Core.List.{List, _∷_, map}
+use mathlib.Core.Bool.{true}
+use Prim.Native.Nat.{ℕ, _≤_, min}
+use native.Mathlib.Omega.{arith}
+use lib.ListN.{length}
+use borrow.Author.Tests.{le-leb}
+use Rattle.octets.specs.Basics.{All}
+use Rattle.frames.specs.Frame.{in-range}
+use Rattle.frames.specs.declared.Settings.{Settings}
+use Rattle.frames.proofs.Settled.{settled}
+use Rattle.multiplexer.specs.Calls.{Call, to-put}
+use Rattle.extractor.specs.Extract.{events-in}
+use Rattle.extractor.specs.Calls.{Listened}
+use Rattle.extractor.proofs.Theorems.{says-the-rules}
+use Rattle.judge.specs.Calls.{CloseSaid, RunCalls}
+use Rattle.exports.specs.Channel.{zone-for, link-of, settings-of}
+use Rattle.demands.specs.Careful.{Sending, run}
+use Rattle.demands.specs.Demand2List.{Delivers}
+use Rattle.demands.specs.Demand3.{HandsOver}
+use Rattle.demands.specs.OverC.Sending.{run-in-c}
+use Rattle.demands.specs.OverC.{Long, RunsInC, HandedOverInC, Demand2InC, Demand3InC, OverC}
+use Rattle.demands.proofs.CarefulRuns.{run-delivers, list-carried}
+use Rattle.demands.proofs.Demand3.{demand-3}
+use Rattle.demands.proofs.OverC.Judges.{judges-in-c, closes-in-c}
+use Rattle.demands.proofs.OverC.Listens.{names-inside, listens-in-c, smooth-in-c}
+use Rattle.demands.proofs.RoundTrips.{orders-handed-over, list-handed-over}
+use Rattle.demands.proofs.OverC.Sends.{sends-in-c}
+pub mod Arrays
+pub mod Sends
+pub mod Names
+pub mod Listens
+pub mod Judges
+
+uncut : (n most : ℕ) → n ≤ most → min n most ≡ n
+uncut n most h = omega arith
+
+states : (s : Settings) (rest : List ℕ) → in-range s ≡ true → s .fill ≤ 255
+    → settings-of (s .link .spacecraft ∷ s .link .channel ∷ s .zone ∷ s .limit ∷ s .fill ∷ rest) ≡ s
+unfolding settings-of link-of zone-for
+states s rest ok octet =
+    let range = settled s ok in
+    rw (
+      uncut (s .link .spacecraft) 4294967295 (omega (arith, range)),
+      uncut (s .link .channel) 4294967295 (omega (arith, range)),
+      uncut (s .fill) 255 octet,
+      le-leb (s .fill) 255 octet,
+    ) refl
+
+module _ (settings : List ℕ) (stated : 5 ≤ length settings) where
+  abbrev s : Settings
+  s = settings-of settings
+
+  runs-in-c : RunsInC settings s
+  runs-in-c = record {
+    sending = λ array answer lend cs l. sends-in-c settings stated array answer lend cs (l .numbers) (l .answers);
+    listening = λ array store answer fs l. listens-in-c settings stated array store answer (l .numbers) (l .answers) fs;
+    judging = λ array store fs l. judges-in-c settings stated array store l fs;
+    closing = λ array store answer fs l. closes-in-c settings stated array store (l .numbers) fs answer (l .answers);
+    naming = λ numbers store f answer l. names-inside settings stated f numbers store answer l;
+  }
+
+  -- the frames that C calls wrote
+  same-frames : (array answer : List ℕ) (lend : ℕ → List ℕ) (cs : List Call) → Long array answer 2
+      → run-in-c settings array answer lend cs .written ≡ run s lend cs .written
+  same-frames array answer lend cs l = ap (λ (x : Sending). x .written) (runs-in-c .sending array answer lend cs l)
+
+  -- what the library's extractor hands over, C calls hand over
+  hand-over : (fs ps : List (List ℕ)) → ((store : List ℕ) → s .limit ≤ length store → HandsOver s store fs ps) → HandedOverInC settings s fs ps
+  hand-over fs ps over array store answer l room =
+      let h : HandsOver s store fs ps = over store room in
+      record {
+        smooth = smooth-in-c settings stated array store answer (l .numbers) (l .answers) fs (h .smooth);
+        exactly = ap (λ (r : Listened). events-in (r .told)) (runs-in-c .listening array store answer fs l) ∙ h .exactly;
+      }
+
+  demand-2-in-c : Demand2InC settings s
+  demand-2-in-c = record {
+    orders = λ array answer lend cs l lends formed.
+        subst (λ (x : Sending). Delivers s cs x) (sym (runs-in-c .sending array answer lend cs l)) (run-delivers s lend cs lends formed);
+    orders-back = λ array answer lend cs l lends formed.
+        rw (same-frames array answer lend cs l) (hand-over _ _ (λ store room. orders-handed-over s lend store cs lends room formed));
+    list = λ array answer lend ps l lends formed.
+        rw (same-frames array answer lend (map to-put ps) l) (list-carried s lend ps lends formed);
+    list-back = λ array answer lend ps l lends formed.
+        rw (same-frames array answer lend (map to-put ps) l) (hand-over _ _ (λ store room. list-handed-over s lend store ps lends room formed));
+    events = λ array store answer fs l fit.
+        ap (λ (r : Listened). r .told) (runs-in-c .listening array store answer fs l) ∙ says-the-rules s store fs fit;
+  }
+
+  demand-3-in-c : Demand3InC settings s
+  demand-3-in-c array store answer fs l fit few =
+      let d = demand-3 s store fs (fit .0) (fit .1) few in
+      let closed = runs-in-c .closing array store answer fs l in
+      let passed = ap (λ (c : CloseSaid). c .passes) closed in
+      record {
+        frames-accepted = subst (λ (r : RunCalls). All (λ n. n ≡ 0) (r .refusals)) (sym (runs-in-c .judging array store fs (l .numbers))) (d .frames-accepted);
+        close-accepted = ap (λ (c : CloseSaid). c .refusal) closed ∙ d .close-accepted;
+        passes-exactly = ((λ e. d .passes-exactly .0 (sym passed ∙ e)), (λ c. passed ∙ d .passes-exactly .1 c));
+        handed-over = λ ps c. hand-over fs ps (d .handed-over ps c);
+      }
+
+pub over-c : OverC
+over-c = record { runs = runs-in-c; demand-2 = demand-2-in-c; demand-3 = demand-3-in-c; stated = states }
