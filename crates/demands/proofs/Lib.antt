@@ -2,6 +2,7 @@ pub mod Bearing
 pub mod CarefulPuts
 pub mod CarefulRuns
 pub mod Carrying
+pub mod Computing
 pub mod Demand1
 pub mod Demand2
 pub mod Demand3
@@ -12,6 +13,7 @@ pub mod Joins
 pub mod Judging
 pub mod Laid
 pub mod OverC
+pub mod Numbered
 pub mod Passed
 pub mod Promised
 pub mod RoundTrips

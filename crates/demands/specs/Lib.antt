@@ -5,6 +5,7 @@ pub mod Demand2
 pub mod Demand2List
 pub mod Demand3
 pub mod OverC
+pub mod Numbers
 pub mod Promises
 pub mod RoundTrip
 pub mod SpaceAndPackets

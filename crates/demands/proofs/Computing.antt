@@ -1,0 +1,52 @@
+-- What the rules compute with, crate by crate: to unfold one of these is to unfold all that its line names.
+use Rattle.octets.specs.Basics.{number-from, number, octets, field, join, placed, part, over, first, number-at, laid}
+use Rattle.packets.specs.Packet.{limit-in-range, sized, counted, space, header-length, encapsulation, look, states, well-formed, is-idle, key-of, size-of}
+use Rattle.packets.specs.Header.{told, reading, version-of, answer}
+use Rattle.packets.specs.Front.{first-octet, second-octet, front}
+use Rattle.packets.specs.Idle.{idle-header, idle-packet, idle-laid}
+use Rattle.packets.specs.Wrap.{lol-for, wrapped-total, wrapped, wrap-in-range, wrap-rows, wrapping, wraps, extension-of, reserved-of, unwrap-rows, unwrapping, unwraps, run-of, unit-part}
+use Rattle.space.specs.Space.{space-fields, space-word, space-in-range, space-reading, space-reads, space-rows, space-writing}
+use Rattle.frames.specs.Link.{link-in-range, primary, zone-head, header-rows, head-word, headers, count-width, next-count, missing}
+use Rattle.frames.specs.Frame.{in-range, frame-length, zone-of, frame-rows, heading-of, heading, head, head-rows}
+use Rattle.frames.specs.BitFrame.{bits-in-range, bit-frame-length, bit-zone-of, bit-unused, bit-frame-rows, bit-heading, bit-head, bit-head-rows}
+use Rattle.multiplexer.specs.Multiplex.{mux-reachable, put-rows, filled-frame, filled-mux, start-now, fits-now, put, flush-rows, flush, idle-rows, idle-frame}
+use Rattle.multiplexer.specs.Calls as multiplexer
+use Rattle.extractor.specs.Extract.{agreed-look, agreed, reason-by, reason-in, lost-since, reason-of, step-of, walked, walk, walk-turns, walk-look, take-in}
+use Rattle.extractor.specs.Records.{unfinished, holds-well, reachable, is-entered, stands-for, enter-rows, set-off, enter, step-rows, handed-over, step-look, step, step-call, part-of, shown}
+use Rattle.extractor.specs.Answers.{entered-numbers, enter-answer, found-numbers, step-answer}
+use Rattle.extractor.specs.Calls.{event-at, steps}
+use Rattle.judge.specs.Judge.{is-fault, faulty-entry}
+use Rattle.judge.specs.Calls.{counts-well, judge-reachable, frame-refusals, close-rows, stepped-through, try-frame, judge-frame, frame-call, judge-close, close-says, closes-with, close-call}
+use Rattle.bitstream.specs.Bitstream.{octets-for, pointer-for, valid-bits, mixed, last-octet, zone-with, writer-reachable, write-rows, frame-with, written, reader-reachable, read-rows, loss-flag, leading-octets}
+use Rattle.bitstream.specs.Bitstream as bits
+use Rattle.runfile.specs.RunFile.{setup-of, fits, stop, with-setup, with-frame, stands, nothing-after, ending, records}
+use Rattle.runfile.specs.RunFile as runfile
+use Rattle.runfile.specs.Steps.{may-follow, body-length, taken, closed}
+
+unfoldable pub packets : Unit {0}
+unfolding number-from number octets field join placed part over first number-at laid limit-in-range sized counted space header-length encapsulation look states well-formed is-idle key-of size-of told reading version-of answer first-octet second-octet front idle-header idle-packet idle-laid lol-for wrapped-total wrapped wrap-in-range wrap-rows wrapping wraps extension-of reserved-of unwrap-rows unwrapping unwraps run-of unit-part space-fields space-word space-in-range space-reading space-reads space-rows space-writing
+packets = tt
+
+unfoldable pub frames : Unit {0}
+unfolding packets link-in-range primary zone-head header-rows head-word headers count-width next-count missing in-range frame-length zone-of frame-rows heading-of heading head head-rows bits-in-range bit-frame-length bit-zone-of bit-unused bit-frame-rows bit-heading bit-head bit-head-rows
+frames = tt
+
+unfoldable pub multiplexing : Unit {0}
+unfolding frames mux-reachable put-rows filled-frame filled-mux start-now fits-now put flush-rows flush idle-rows idle-frame multiplexer.answers multiplexer.answer
+multiplexing = tt
+
+unfoldable pub extracting : Unit {0}
+unfolding frames agreed-look agreed reason-by reason-in lost-since reason-of step-of walked walk walk-turns walk-look take-in unfinished holds-well reachable is-entered stands-for enter-rows set-off enter step-rows handed-over step-look step step-call part-of shown entered-numbers enter-answer found-numbers step-answer event-at steps
+extracting = tt
+
+unfoldable pub judging : Unit {0}
+unfolding extracting is-fault faulty-entry counts-well judge-reachable frame-refusals close-rows stepped-through try-frame judge-frame frame-call judge-close close-says closes-with close-call
+judging = tt
+
+unfoldable pub bitstreams : Unit {0}
+unfolding frames octets-for pointer-for valid-bits mixed last-octet zone-with writer-reachable write-rows frame-with written reader-reachable read-rows loss-flag leading-octets bits.reading
+bitstreams = tt
+
+unfoldable pub run-files : Unit {0}
+unfolding frames setup-of fits stop with-setup with-frame stands nothing-after ending records runfile.reading may-follow body-length taken closed
+run-files = tt

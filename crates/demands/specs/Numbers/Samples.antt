@@ -1,0 +1,46 @@
+-- The settings, frames and packets that the examples are made of.
+use Prim.Native.Nat.{ℕ}
+use mathlib.Core.List.{List, [], _∷_}
+use lib.ListN.{replicate}
+use Rattle.frames.specs.declared.Settings.{Settings}
+use Rattle.frames.specs.declared.bits.BitSettings.{BitSettings}
+
+-- settings of a packet channel by spacecraft, channel, Z and M, and of a bitstream channel by spacecraft, channel and W
+abbrev pub set : ℕ → ℕ → ℕ → ℕ → Settings
+set spacecraft channel zone limit =
+    record { link = record { spacecraft = spacecraft; channel = channel }; zone = zone; limit = limit; fill = 0x55 }
+
+abbrev pub set-bits : ℕ → ℕ → ℕ → BitSettings
+set-bits spacecraft channel width = record { link = record { spacecraft = spacecraft; channel = channel }; width = width; fill = 0x55 }
+
+-- spacecraft 66, channel 3, Z = 10, M = 12; the same with Z = 0; and the least zone and limit
+abbrev pub small : Settings
+small = set 66 3 10 12
+
+abbrev pub broken : Settings
+broken = set 66 3 0 12
+
+abbrev pub least : Settings
+least = set 66 3 1 7
+
+-- spacecraft 66, channel 3, W = 2; and the same with W = 0
+abbrev pub two-octets : BitSettings
+two-octets = set-bits 66 3 2
+
+abbrev pub no-octets : BitSettings
+no-octets = set-bits 66 3 0
+
+-- a frame of that channel: the last octet of its count, the two octets of its zone's header, and its zone
+abbrev pub frame : ℕ → ℕ → ℕ → List ℕ → List ℕ
+frame count high low zone = 0x50 ∷ 0x83 ∷ 0x00 ∷ 0x00 ∷ count ∷ 0x00 ∷ high ∷ low ∷ zone
+
+-- so many octets that are lent
+abbrev pub lent : ℕ → List ℕ
+lent n = replicate n 0xFF
+
+-- a space packet of ten octets, and one of seven
+abbrev pub ten : List ℕ
+ten = 0x00 ∷ 0x05 ∷ 0xC0 ∷ 0x00 ∷ 0x00 ∷ 0x03 ∷ 0xA1 ∷ 0xA2 ∷ 0xA3 ∷ 0xA4 ∷ []
+
+abbrev pub seven : List ℕ
+seven = 0x00 ∷ 0x05 ∷ 0xC0 ∷ 0x00 ∷ 0x00 ∷ 0x00 ∷ 0xA1 ∷ []
