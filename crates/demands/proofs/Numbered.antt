@@ -1,9 +1,21 @@
 -- Document 01's numbers and layouts hold, by computing.
 -- Assumes nothing.
 use mathlib.Core.Path.{refl}
+use Rattle.demands.specs.Numbers.{Layouts, Refusals, Doings, Numbers}
 use Rattle.demands.specs.Numbers.Ranges.{Edges}
+use Rattle.demands.specs.Numbers.FrameFields as frames
+use Rattle.demands.specs.Numbers.PacketFields.{SpacePackets, EncapsulationPackets}
+use Rattle.demands.specs.Numbers.SpaceFields as space
+use Rattle.demands.specs.Numbers.Wrapping as wrapping
 use Rattle.demands.specs.Numbers.Multiplexing as multiplexing
+use Rattle.demands.specs.Numbers.Entering as entering
+use Rattle.demands.specs.Numbers.Stepping as stepping
+use Rattle.demands.specs.Numbers.Judging as judging
+use Rattle.demands.specs.Numbers.Bits as bits
+use Rattle.demands.specs.Numbers.RunFiles as runs
+use Rattle.demands.specs.Numbers.Answers.{Cases}
 use Rattle.demands.proofs.Computing as computing
+use Rattle.demands.proofs.OnlyThese.{only-these}
 
 ranges : Edges
 unfolding computing.multiplexing computing.judging computing.bitstreams
@@ -25,9 +37,85 @@ ranges = record {
   bit-counts = refl;
 }
 
-refusals : multiplexing.Refusals
+frame-read : frames.Read
+unfolding computing.frames
+frame-read = record {
+  versions = refl;
+  spacecraft = refl;
+  channels = refl;
+  others = refl;
+  counts = refl;
+  signals = refl;
+  spares = refl;
+  pointers = refl;
+  unused = refl;
+  bit-spares = refl;
+  bit-pointers = refl;
+  bit-unused = refl;
+  bit-others = refl;
+  lengths = refl;
+  other-lengths = refl;
+  other-bit-lengths = refl;
+}
+
+frame-written : frames.Written
+unfolding computing.frames
+frame-written = record {
+  none = refl;
+  spacecraft = refl;
+  channels = refl;
+  counts = refl;
+  pointers = refl;
+  bit-none = refl;
+  bit-pointers = refl;
+  refusals = refl;
+  bit-refusals = refl;
+}
+
+wheel : frames.Wheel
+unfolding computing.frames
+wheel = record {
+  missing-before = refl;
+}
+
+space-packets : SpacePackets
+unfolding computing.packets
+space-packets = record {
+  apids = refl;
+  lengths = refl;
+  others = refl;
+  unfinished = refl;
+  limits = refl;
+  pass-12 = refl;
+}
+
+encapsulation-packets : EncapsulationPackets
+unfolding computing.packets
+encapsulation-packets = record {
+  protocols = refl;
+  one-octet = refl;
+  lengths = refl;
+  past-the-limit = refl;
+  others = refl;
+  below = refl;
+  unfinished = refl;
+  limits = refl;
+  versions = refl;
+  stated = refl;
+}
+
+space-headers : space.Headers
+unfolding computing.packets
+space-headers = record {
+  read = refl;
+  written = refl;
+  too-great = refl;
+  no-room = refl;
+}
+
+multiplexer : multiplexing.Refusals
 unfolding computing.multiplexing
-refusals = record {
+multiplexer = record {
   begins = refl;
   put = refl;
   flush = refl;
@@ -39,9 +127,63 @@ refusals = record {
   not-reached = refl;
 }
 
-written : multiplexing.Frames
+enter : entering.Refusals
+unfolding computing.extracting
+enter = record {
+  each = refl;
+  order = refl;
+}
+
+records : entering.Records
+unfolding computing.extracting
+records = record {
+  reached = refl;
+  not-reached = refl;
+  longer = refl;
+  damaged = refl;
+}
+
+step : stepping.Refusals
+unfolding computing.extracting
+step = record {
+  each = refl;
+  order = refl;
+}
+
+judge : judging.Refusals
+unfolding computing.judging
+judge = record {
+  each = refl;
+  close-each = refl;
+  order = refl;
+  close-order = refl;
+  last-frames = refl;
+  past-the-last = refl;
+  reached = refl;
+  not-reached = refl;
+}
+
+wrap : wrapping.Refusals
+unfolding computing.packets
+wrap = record {
+  wrap = refl;
+  unwrap = refl;
+  wrap-order = refl;
+  unwrap-order = refl;
+}
+
+bitstream : bits.Refusals
+unfolding computing.bitstreams
+bitstream = record {
+  write = refl;
+  write-order = refl;
+  read = refl;
+  read-order = refl;
+}
+
+multiplexed : multiplexing.Frames
 unfolding computing.multiplexing
-written = record {
+multiplexed = record {
   begun-zone = refl;
   full-zone = refl;
   cut = refl;
@@ -52,4 +194,157 @@ written = record {
   three-left = refl;
   one-left = refl;
   idle-zone = refl;
+}
+
+entered : entering.Reasons
+unfolding computing.extracting
+entered = record {
+  fresh = refl;
+  astray = refl;
+  lost = refl;
+  lost-astray = refl;
+  lost-first = refl;
+  none-held = refl;
+  held-agrees = refl;
+  held-differs = refl;
+  held-reserved = refl;
+  unfinished = refl;
+  damaged = refl;
+  damaged-reserved = refl;
+  replayed = refl;
+}
+
+stepped : stepping.Events
+unfolding computing.extracting
+stepped = record {
+  completed = refl;
+  in-frame = refl;
+  spent = refl;
+  damaged = refl;
+  left = refl;
+  appended = refl;
+  begun = refl;
+  idle = refl;
+  not-idle = refl;
+}
+
+judged : judging.Faults
+unfolding computing.judging
+judged = record {
+  sound = refl;
+  holding = refl;
+  refused = refl;
+  next = refl;
+  later = refl;
+  replayed = refl;
+}
+
+closed : judging.Verdicts
+unfolding computing.judging
+closed = record {
+  each = refl;
+  refused = refl;
+}
+
+wrapped : wrapping.Wrapped
+unfolding computing.packets
+wrapped = record {
+  two = refl;
+  refused = refl;
+  protocols = refl;
+  extensions = refl;
+  pass-10 = refl;
+  pass-11 = refl;
+  extended = refl;
+}
+
+unwrapped : wrapping.Units
+unfolding computing.packets
+unwrapped = record {
+  each = refl;
+  part = refl;
+}
+
+bits-carried : bits.Frames
+unfolding computing.bitstreams
+bits-carried = record {
+  begins = refl;
+  none = refl;
+  some = refl;
+  wheel = refl;
+  valid = refl;
+  reserved = refl;
+  replayed = refl;
+  follows = refl;
+  leading = refl;
+  other-length = refl;
+}
+
+run-files : runs.Records
+unfolding computing.run-files
+run-files = record {
+  setups = refl;
+  bodies = refl;
+  first = refl;
+  frame = refl;
+  end = refl;
+  after = refl;
+  last-frame = refl;
+  cut = refl;
+  whole = refl;
+  bad-records = refl;
+}
+
+answers : Cases
+unfolding computing.multiplexing computing.judging
+answers = record {
+  entering = refl;
+  refused-step = refl;
+  in-frame = refl;
+  in-store = refl;
+  no-part = refl;
+  shows = refl;
+  closing = refl;
+  headers = refl;
+  refused-header = refl;
+  put = refl;
+  refused-put = refl;
+  wrapped = refl;
+  unwrapped = refl;
+  space-read = refl;
+}
+
+pub numbers : Numbers
+numbers = record {
+  ranges = ranges;
+  layouts = record {
+    frame-read = frame-read;
+    frame-written = frame-written;
+    wheel = wheel;
+    space-packets = space-packets;
+    encapsulation-packets = encapsulation-packets;
+    space-headers = space-headers;
+  };
+  refusals = record {
+    only = only-these;
+    multiplexer = multiplexer;
+    enter = enter;
+    records = records;
+    step = step;
+    judge = judge;
+    wrap = wrap;
+    bitstream = bitstream;
+  };
+  doings = record {
+    multiplexed = multiplexed;
+    entered = entered;
+    stepped = stepped;
+    judged = judged;
+    closed = closed;
+    wrapped = wrapped;
+    unwrapped = unwrapped;
+    bits = bits-carried;
+  };
+  run-files = run-files;
+  answers = answers;
 }

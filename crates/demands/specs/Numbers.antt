@@ -1,11 +1,67 @@
 -- Document 01's numbers and layouts, once, by examples that compute: a rule that code and definitions have wrong together fails here.
 use Rattle.demands.specs.Numbers.Ranges.{Edges}
+use Rattle.demands.specs.Numbers.Only.{OnlyThese}
+use Rattle.demands.specs.Numbers.FrameFields as frames
+use Rattle.demands.specs.Numbers.PacketFields.{SpacePackets, EncapsulationPackets}
+use Rattle.demands.specs.Numbers.SpaceFields as space
+use Rattle.demands.specs.Numbers.Wrapping as wrapping
 use Rattle.demands.specs.Numbers.Multiplexing as multiplexing
+use Rattle.demands.specs.Numbers.Entering as entering
+use Rattle.demands.specs.Numbers.Stepping as stepping
+use Rattle.demands.specs.Numbers.Judging as judging
+use Rattle.demands.specs.Numbers.Bits as bits
+use Rattle.demands.specs.Numbers.RunFiles as runs
+use Rattle.demands.specs.Numbers.Answers.{Cases}
 pub mod Samples
 pub mod Ranges
+pub mod Only
+pub mod FrameFields
+pub mod PacketFields
+pub mod SpaceFields
+pub mod Wrapping
 pub mod Multiplexing
+pub mod Entering
+pub mod Stepping
+pub mod Judging
+pub mod Bits
+pub mod RunFiles
+pub mod Answers
+
+-- layouts
+pub record Layouts : Type 0 where
+  pub frame-read : frames.Read
+  pub frame-written : frames.Written
+  pub wheel : frames.Wheel
+  pub space-packets : SpacePackets
+  pub encapsulation-packets : EncapsulationPackets
+  pub space-headers : space.Headers
+
+-- what each call is refused for, and in which order
+pub record Refusals : Type 0 where
+  pub only : OnlyThese
+  pub multiplexer : multiplexing.Refusals
+  pub enter : entering.Refusals
+  pub records : entering.Records
+  pub step : stepping.Refusals
+  pub judge : judging.Refusals
+  pub wrap : wrapping.Refusals
+  pub bitstream : bits.Refusals
+
+-- what each call does
+pub record Doings : Type 0 where
+  pub multiplexed : multiplexing.Frames
+  pub entered : entering.Reasons
+  pub stepped : stepping.Events
+  pub judged : judging.Faults
+  pub closed : judging.Verdicts
+  pub wrapped : wrapping.Wrapped
+  pub unwrapped : wrapping.Units
+  pub bits : bits.Frames
 
 pub record Numbers : Type 0 where
   pub ranges : Edges
-  pub multiplexer : multiplexing.Refusals
-  pub multiplexed : multiplexing.Frames
+  pub layouts : Layouts
+  pub refusals : Refusals
+  pub doings : Doings
+  pub run-files : runs.Records
+  pub answers : Cases

@@ -1,4 +1,4 @@
--- Document 01's starred sample passes, 1 to 9 and 13, as one statement over the rules together.
+-- Document 01's starred sample passes, 1 to 9 and 13, and its numbers and layouts, as one statement over the rules together.
 use Prim.Native.Nat.{ℕ}
 use mathlib.Core.Path.{_≡_}
 use mathlib.Core.List.{List, [], _∷_}
@@ -10,10 +10,13 @@ use Rattle.multiplexer.specs.Passes as multiplexer
 use Rattle.extractor.specs.Passes.{sample, first-frame, second-frame, Pass, passes, SamplePasses}
 use Rattle.judge.specs.Judge.{Verdict, pass, fault, verdict}
 use Rattle.bitstream.specs.Passes as bitstream
+use Rattle.demands.specs.Numbers.{Numbers}
 use Rattle.demands.specs.Weaker.{Weaker}
 
--- what is shown of a packet: its APID or protocol, whether it is idle, and its length
+-- what is shown of a packet: its kind, version 0 for a space packet and 7 for an encapsulation packet; its APID or protocol; whether
+-- it is idle; and its length
 pub record Shown : Type 0 where
+  pub version : ℕ
   pub key : ℕ
   pub idle : Bool
   pub length : ℕ
@@ -21,7 +24,7 @@ pub record Shown : Type 0 where
 abbrev pub shows : List ℕ → Shown
 shows p =
     let r : Reading = reading (sample .limit) p in
-    record { key = r .key; idle = r .idle; length = r .total }
+    record { version = r .version; key = r .key; idle = r .idle; length = r .total }
 
 -- the two frames of the sample run octet by octet, and its three packets: `space 5 8`, `encap 2 5`, `idle 7`
 pub record Pass1 : Type 0 where
@@ -31,9 +34,9 @@ pub record Pass1 : Type 0 where
   pub second-octets : second-frame 1 3
       ≡ 0x50 ∷ 0x83 ∷ 0x00 ∷ 0x00 ∷ 0x01 ∷ 0x00 ∷ 0x00 ∷ 0x03
       ∷ 0x11 ∷ 0x22 ∷ 0x33 ∷ 0xE1 ∷ 0x07 ∷ 0x55 ∷ 0x55 ∷ 0x55 ∷ 0x55 ∷ 0x55 ∷ []
-  pub space-5-8 : shows (0x00 ∷ 0x05 ∷ 0xC0 ∷ 0x00 ∷ 0x00 ∷ 0x01 ∷ 0xAA ∷ 0xBB ∷ []) ≡ record { key = 5; idle = false; length = 8 }
-  pub encap-2-5 : shows (0xE9 ∷ 0x05 ∷ 0x11 ∷ 0x22 ∷ 0x33 ∷ []) ≡ record { key = 2; idle = false; length = 5 }
-  pub idle-7 : shows (0xE1 ∷ 0x07 ∷ 0x55 ∷ 0x55 ∷ 0x55 ∷ 0x55 ∷ 0x55 ∷ []) ≡ record { key = 0; idle = true; length = 7 }
+  pub space-5-8 : shows (0x00 ∷ 0x05 ∷ 0xC0 ∷ 0x00 ∷ 0x00 ∷ 0x01 ∷ 0xAA ∷ 0xBB ∷ []) ≡ record { version = 0; key = 5; idle = false; length = 8 }
+  pub encap-2-5 : shows (0xE9 ∷ 0x05 ∷ 0x11 ∷ 0x22 ∷ 0x33 ∷ []) ≡ record { version = 7; key = 2; idle = false; length = 5 }
+  pub idle-7 : shows (0xE1 ∷ 0x07 ∷ 0x55 ∷ 0x55 ∷ 0x55 ∷ 0x55 ∷ 0x55 ∷ []) ≡ record { version = 7; key = 0; idle = true; length = 7 }
 
 -- what the judge says of each of some runs
 abbrev pub verdicts : List Pass → List Verdict
@@ -53,5 +56,6 @@ pub record Table : Type 0 where
   pub pass-9-flushes : multiplexer.Pass9
   pub pass-13-pointers : frames.Pass13
   pub pass-13 : bitstream.Pass13
+  pub numbers : Numbers
   -- and each part of the rule for "some list" is needed
   pub needed : Weaker

@@ -34,7 +34,7 @@ looked s f store last h at rest damaged = refl
 looked s f store last h at rest (whole l) =
     test (leb l (h + length rest)) (λ t. test (eqb h 0) (λ u. rw (t, u) refl) (λ u. rw (t, u) refl)) (λ t. rw t refl)
 
-unrefused : (s : Settings) (f store : List ℕ) (x : Extractor) → Unrefused f (step s f store x)
+pub unrefused : (s : Settings) (f store : List ℕ) (x : Extractor) → Unrefused f (step s f store x)
 unfolding step found-numbers
 unrefused s f store Fresh = refl
 unrefused s f store (Astray last) = refl

@@ -18,7 +18,7 @@ use Rattle.demands.specs.Promises.{Left}
 use Rattle.demands.specs.calls.Judge.{OfJudge}
 use Rattle.demands.proofs.Promised.{promised, through}
 
-closes-unrefused : (v : Verdict) → close-says (closes-with v) .refusal ≡ 0
+pub closes-unrefused : (v : Verdict) → close-says (closes-with v) .refusal ≡ 0
 unfolding close-says closes-with
 closes-unrefused pass = refl
 closes-unrefused (fault k) = refl

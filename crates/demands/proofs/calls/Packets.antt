@@ -19,12 +19,12 @@ use Rattle.demands.specs.calls.Packets.{OfPackets}
 use Rattle.demands.proofs.Promised.{by-rows, promised, left-same, exactly, writes}
 
 -- a limit out of range is the reader's only refusal
-reading-by-row : (limit : ℕ) (os : List ℕ)
+pub reading-by-row : (limit : ℕ) (os : List ℕ)
     → header.reading limit os ≡ by-rows (row 1 (not (limit-in-range limit)) ∷ []) (header.told os (look limit os)) (λ n. bare n 0)
 unfolding header.reading first
 reading-by-row limit os = test (limit-in-range limit) (λ t. rw t refl) (λ t. rw t refl)
 
-told-unrefused : (os : List ℕ) (k : Look) → header.told os k .refusal ≡ 0
+pub told-unrefused : (os : List ℕ) (k : Look) → header.told os k .refusal ≡ 0
 unfolding header.told
 told-unrefused os more = refl
 told-unrefused os damaged = refl

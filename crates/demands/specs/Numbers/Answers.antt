@@ -1,0 +1,70 @@
+-- What each case of an answer means in document 01's numbers.
+use Prim.Native.Nat.{ℕ}
+use mathlib.Core.Path.{_≡_}
+use mathlib.Core.List.{List, [], _∷_, map}
+use mathlib.Core.Bool.{Bool, true, false}
+use Rattle.packets.specs.Header.{Reading, answer}
+use Rattle.packets.specs.Wrap.{Wrapping, wraps, Unwrapping, unwraps}
+use Rattle.packets.specs.declared.Kind.the-variants.{Space, Encapsulation}
+use Rattle.packets.specs.declared.Header.{Header}
+use Rattle.packets.specs.declared.wrapping.Wrapped.{Wrapped}
+use Rattle.packets.specs.declared.wrapping.Unwrapped.{Unwrapped}
+use Rattle.space.specs.Space.{SpaceReading, space-reads}
+use Rattle.space.specs.declared.SpaceRead.{SpaceRead}
+use Rattle.multiplexer.specs.Calls.{Answer, answers}
+use Rattle.multiplexer.specs.declared.Reply.{Reply}
+use Rattle.extractor.specs.Records.{shown}
+use Rattle.extractor.specs.Answers.{EnterNumbers, entered-numbers, StepNumbers, found-numbers}
+use Rattle.extractor.specs.declared.Entered.{Entered}
+use Rattle.extractor.specs.declared.Found.{Found}
+use Rattle.judge.specs.Calls.{CloseSaid, close-says}
+use Rattle.judge.specs.declared.Closed.{Closed}
+use Rattle.demands.specs.Numbers.Multiplexing.{mux, done}
+use Rattle.demands.specs.Numbers.PacketFields.{whole, bare}
+use Rattle.demands.specs.Numbers.SpaceFields.{fields, reads}
+use Rattle.demands.specs.Numbers.Wrapping.{says}
+
+-- what a step answers, and what entering answers
+abbrev pub found : ℕ → ℕ → ℕ → ℕ → ℕ → List ℕ → StepNumbers
+found refusal outcome place start size part =
+    record { refusal = refusal; outcome = outcome; place = place; start = start; size = size; part = part }
+
+abbrev pub entered : ℕ → ℕ → ℕ → ℕ → ℕ → ℕ → ℕ → EnterNumbers
+entered refusal outcome count replay lost dropped reason =
+    record { refusal = refusal; outcome = outcome; count = count; replay = replay; lost = lost; dropped = dropped; reason = reason }
+
+-- a frame and a store of three octets
+abbrev pub of-three : Found → StepNumbers
+of-three a = found-numbers (1 ∷ 2 ∷ 3 ∷ []) (4 ∷ 5 ∷ 6 ∷ []) a
+
+pub record Cases : Type 0 where
+  pub entering : map entered-numbers (Entered.Refused 9 ∷ Entered.Taken (record { count = 1; replay = 1; lost = 2; dropped = 3; reason = 2 }) ∷ [])
+      ≡ entered 9 0 0 0 0 0 0 ∷ entered 0 1 1 1 2 3 2 ∷ []
+  -- 1 a packet, 2 an idle packet, 3 damaged, 4 spent; 1 in the frame, 2 in the store
+  pub refused-step : of-three (Found.Refused 9) ≡ found 9 0 0 0 0 []
+  pub in-frame : map of-three (Found.InFrame 1 2 false ∷ Found.InFrame 1 2 true ∷ Found.InFrame 1 3 false ∷ [])
+      ≡ found 0 1 1 1 2 (2 ∷ 3 ∷ []) ∷ found 0 2 1 1 2 (2 ∷ 3 ∷ []) ∷ found 0 1 1 1 3 [] ∷ []
+  pub in-store : map of-three (Found.InStore 2 false ∷ Found.InStore 2 true ∷ Found.InStore 4 false ∷ [])
+      ≡ found 0 1 2 0 2 (4 ∷ 5 ∷ []) ∷ found 0 2 2 0 2 (4 ∷ 5 ∷ []) ∷ found 0 1 2 0 4 [] ∷ []
+  pub no-part : map of-three (Found.Damaged ∷ Found.Spent ∷ []) ≡ found 0 3 0 0 0 [] ∷ found 0 4 0 0 0 [] ∷ []
+  -- the part that is shown of that frame and that store
+  pub shows : map (shown (1 ∷ 2 ∷ 3 ∷ []) (4 ∷ 5 ∷ 6 ∷ [])) (Found.InFrame 1 2 false ∷ Found.InStore 2 true ∷ Found.Refused 9 ∷ Found.Damaged ∷ Found.Spent ∷ [])
+      ≡ (2 ∷ 3 ∷ []) ∷ (4 ∷ 5 ∷ []) ∷ [] ∷ [] ∷ [] ∷ []
+  pub closing : map close-says (Closed.Refused 10 ∷ Closed.Pass ∷ Closed.Fault 5 ∷ [])
+      ≡ record { accepted = false; refusal = 10; passes = false; at = 0 }
+      ∷ record { accepted = true; refusal = 0; passes = true; at = 0 }
+      ∷ record { accepted = true; refusal = 0; passes = false; at = 5 }
+      ∷ []
+  -- version 0 is a space packet, 7 an encapsulation packet; 1 more octets are needed, 2 damaged
+  pub headers : map answer (Header.Whole Space 5 false 6 8 ∷ Header.Whole Encapsulation 0 true 2 7 ∷ Header.More ∷ Header.Damaged ∷ [])
+      ≡ whole 0 5 false 6 8 ∷ whole 7 0 true 2 7 ∷ bare 1 ∷ bare 2 ∷ []
+  pub refused-header : answer (Header.Refused 1) ≡ record { refusal = 1; outcome = 0; version = 0; key = 0; idle = false; size = 0; total = 0 }
+  pub put : answers (Reply.Done true false (mux 1 2 3 4)) (7 ∷ []) ≡ done true false (mux 1 2 3 4) (7 ∷ [])
+  pub refused-put : answers (Reply.Refused 9 (mux 1 2 3 4)) (7 ∷ [])
+      ≡ record { accepted = false; refusal = 9; full = false; taken = false; mux = mux 1 2 3 4; frame = 7 ∷ [] }
+  pub wrapped : map (λ w. wraps w (7 ∷ [])) (Wrapped.Refused 8 ∷ Wrapped.Total 5 ∷ [])
+      ≡ record { accepted = false; refusal = 8; total = 0; output = 7 ∷ [] } ∷ record { accepted = true; refusal = 0; total = 5; output = 7 ∷ [] } ∷ []
+  pub unwrapped : map unwraps (Unwrapped.Refused 6 ∷ Unwrapped.Unit 6 1 4 9 ∷ [])
+      ≡ record { accepted = false; refusal = 6; protocol = 0; extension = 0; start = 0; size = 0 } ∷ says 6 1 4 9 ∷ []
+  pub space-read : map space-reads (SpaceRead.Refused 8 ∷ SpaceRead.Read (fields 1 0 2 3 4 5) ∷ [])
+      ≡ record { accepted = false; refusal = 8; header = fields 0 0 0 0 0 0 } ∷ reads (fields 1 0 2 3 4 5) ∷ []

@@ -1,0 +1,66 @@
+-- What the header reader tells of space packets and encapsulation packets: every field at its place, the kinds, idle ones, and damage.
+use Prim.Native.Nat.{ℕ}
+use mathlib.Core.Path.{_≡_}
+use mathlib.Core.List.{List, [], _∷_, map}
+use mathlib.Core.Bool.{Bool, true, false}
+use lib.ListN.{replicate}
+use Rattle.packets.specs.Packet.{well-formed}
+use Rattle.packets.specs.Header.{Reading, reading}
+
+-- a whole header: version, APID or protocol, whether it is idle, its length and the packet's
+abbrev pub whole : ℕ → ℕ → Bool → ℕ → ℕ → Reading
+whole version key idle size total = record { refusal = 0; outcome = 3; version = version; key = key; idle = idle; size = size; total = total }
+
+-- a space packet and an encapsulation packet that are not idle; more octets are needed; damaged
+abbrev pub space : ℕ → ℕ → Reading
+space apid total = whole 0 apid false 6 total
+
+abbrev pub encap : ℕ → ℕ → ℕ → Reading
+encap protocol size total = whole 7 protocol false size total
+
+abbrev pub bare : ℕ → Reading
+bare outcome = record { refusal = 0; outcome = outcome; version = 0; key = 0; idle = false; size = 0; total = 0 }
+
+abbrev pub more : Reading
+more = bare 1
+
+abbrev pub damaged : Reading
+damaged = bare 2
+
+-- at the greatest M
+abbrev pub read : List ℕ → Reading
+read os = reading 65542 os
+
+pub record SpacePackets : Type 0 where
+  -- the APID, and 2,047, which alone is idle; the length field, and 7 more
+  pub apids : map read ((0x00 ∷ 0x01 ∷ replicate 4 0) ∷ (0x04 ∷ 0x00 ∷ replicate 4 0) ∷ (0x07 ∷ 0xFE ∷ replicate 4 0) ∷ (0x07 ∷ 0xFF ∷ replicate 4 0) ∷ [])
+      ≡ space 1 7 ∷ space 1024 7 ∷ space 2046 7 ∷ whole 0 2047 true 6 7 ∷ []
+  pub lengths : map read ((0 ∷ 0 ∷ 0 ∷ 0 ∷ 0x00 ∷ 0x01 ∷ []) ∷ (0 ∷ 0 ∷ 0 ∷ 0 ∷ 0x80 ∷ 0x00 ∷ []) ∷ (0 ∷ 0 ∷ 0 ∷ 0 ∷ 0xFF ∷ 0xFF ∷ []) ∷ [])
+      ≡ space 0 8 ∷ space 0 32775 ∷ space 0 65542 ∷ []
+  -- type, secondary header, sequence flags and sequence count do not count
+  pub others : map read ((0x10 ∷ replicate 5 0) ∷ (0x08 ∷ replicate 5 0) ∷ (0 ∷ 0 ∷ 0xC0 ∷ replicate 3 0) ∷ (0 ∷ 0 ∷ 0x3F ∷ 0xFF ∷ 0 ∷ 0 ∷ []) ∷ []) ≡ replicate 4 (space 0 7)
+  -- five octets of the header are not enough; the total is at most M
+  pub unfinished : read (replicate 5 0) ≡ more
+  pub limits : map (λ limit. reading limit (0 ∷ 0 ∷ 0 ∷ 0 ∷ 0x00 ∷ 0x01 ∷ [])) (7 ∷ 8 ∷ []) ≡ damaged ∷ space 0 8 ∷ []
+  pub pass-12 : reading 65541 (0 ∷ 0 ∷ 0 ∷ 0 ∷ 0xFF ∷ 0xFF ∷ []) ≡ damaged
+
+pub record EncapsulationPackets : Type 0 where
+  -- the protocol, and 0, which alone is idle; a header of one octet has no other
+  pub protocols : map (λ o. read (o ∷ 0x02 ∷ [])) (0xE1 ∷ 0xE5 ∷ 0xF1 ∷ 0xFD ∷ []) ≡ whole 7 0 true 2 2 ∷ encap 1 2 2 ∷ encap 4 2 2 ∷ encap 7 2 2 ∷ []
+  pub one-octet : map (λ o. read (o ∷ [])) (0xE0 ∷ 0xE4 ∷ 0xF0 ∷ 0xFC ∷ []) ≡ whole 7 0 true 1 1 ∷ damaged ∷ damaged ∷ damaged ∷ []
+  -- the length in one octet, two and four; the greatest totals, and the highest bit of the longest, which passes every M
+  pub lengths : map read
+      ((0xE5 ∷ 0xFF ∷ []) ∷ (0xE6 ∷ 0 ∷ 0x01 ∷ 0x00 ∷ []) ∷ (0xE6 ∷ 0 ∷ 0xFF ∷ 0xFF ∷ []) ∷ (0xE7 ∷ 0 ∷ 0 ∷ 0 ∷ 0 ∷ 0 ∷ 0x01 ∷ 0x00 ∷ []) ∷ (0xE7 ∷ 0 ∷ 0 ∷ 0 ∷ 0 ∷ 1 ∷ 0x00 ∷ 0x06 ∷ []) ∷ (0xE7 ∷ 0 ∷ 0 ∷ 0 ∷ 0x80 ∷ 0 ∷ 0 ∷ 8 ∷ []) ∷ [])
+      ≡ encap 1 2 255 ∷ encap 1 4 256 ∷ encap 1 4 65535 ∷ encap 1 8 256 ∷ encap 1 8 65542 ∷ damaged ∷ []
+  pub past-the-limit : read (0xE7 ∷ 0 ∷ 0 ∷ 0 ∷ 0 ∷ 1 ∷ 0x00 ∷ 0x07 ∷ []) ≡ damaged
+  -- user, extension and reserved bits do not count
+  pub others : map read ((0xE6 ∷ 0xF0 ∷ 0 ∷ 4 ∷ []) ∷ (0xE6 ∷ 0x0F ∷ 0 ∷ 4 ∷ []) ∷ (0xE7 ∷ 0xFF ∷ 0 ∷ 0 ∷ 0 ∷ 0 ∷ 0 ∷ 8 ∷ []) ∷ (0xE7 ∷ 0 ∷ 0xFF ∷ 0xFF ∷ 0 ∷ 0 ∷ 0 ∷ 8 ∷ []) ∷ [])
+      ≡ encap 1 4 4 ∷ encap 1 4 4 ∷ encap 1 8 8 ∷ encap 1 8 8 ∷ []
+  -- a length is at least its header's
+  pub below : map read ((0xE5 ∷ 1 ∷ []) ∷ (0xE6 ∷ 0 ∷ 0 ∷ 3 ∷ []) ∷ (0xE7 ∷ 0 ∷ 0 ∷ 0 ∷ 0 ∷ 0 ∷ 0 ∷ 7 ∷ []) ∷ []) ≡ replicate 3 damaged
+  pub unfinished : map read ([] ∷ (0xE5 ∷ []) ∷ (0xE6 ∷ 0 ∷ 0 ∷ []) ∷ (0xE7 ∷ 0 ∷ 0 ∷ 0 ∷ 0 ∷ 0 ∷ 0 ∷ []) ∷ []) ≡ replicate 4 more
+  pub limits : map (λ limit. reading limit (0xE5 ∷ 12 ∷ [])) (11 ∷ 12 ∷ []) ≡ damaged ∷ encap 1 2 12 ∷ []
+  -- versions 001 to 110 are damage as soon as the first octet is seen
+  pub versions : map (λ o. read (o ∷ [])) (0x20 ∷ 0x40 ∷ 0x60 ∷ 0x80 ∷ 0xA0 ∷ 0xC0 ∷ []) ≡ replicate 6 damaged
+  -- a lent packet has exactly its stated length
+  pub stated : map (well-formed 12) ((0xE5 ∷ 3 ∷ []) ∷ (0xE5 ∷ 3 ∷ 0 ∷ []) ∷ (0xE5 ∷ 3 ∷ 0 ∷ 0 ∷ []) ∷ (0xE5 ∷ 2 ∷ []) ∷ []) ≡ false ∷ true ∷ false ∷ true ∷ []
