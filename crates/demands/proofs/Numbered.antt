@@ -74,20 +74,11 @@ frame-written = record {
 
 wheel : frames.Wheel
 unfolding computing.frames
-wheel = record {
-  missing-before = refl;
-}
+wheel = record { missing-before = refl }
 
 space-packets : SpacePackets
 unfolding computing.packets
-space-packets = record {
-  apids = refl;
-  lengths = refl;
-  others = refl;
-  unfinished = refl;
-  limits = refl;
-  pass-12 = refl;
-}
+space-packets = record { apids = refl; lengths = refl; others = refl; unfinished = refl; limits = refl; pass-12 = refl }
 
 encapsulation-packets : EncapsulationPackets
 unfolding computing.packets
@@ -106,12 +97,7 @@ encapsulation-packets = record {
 
 space-headers : space.Headers
 unfolding computing.packets
-space-headers = record {
-  read = refl;
-  written = refl;
-  too-great = refl;
-  no-room = refl;
-}
+space-headers = record { read = refl; written = refl; too-great = refl; no-room = refl }
 
 multiplexer : multiplexing.Refusals
 unfolding computing.multiplexing
@@ -129,26 +115,15 @@ multiplexer = record {
 
 enter : entering.Refusals
 unfolding computing.extracting
-enter = record {
-  each = refl;
-  order = refl;
-}
+enter = record { each = refl; order = refl }
 
 records : entering.Records
 unfolding computing.extracting
-records = record {
-  reached = refl;
-  not-reached = refl;
-  longer = refl;
-  damaged = refl;
-}
+records = record { reached = refl; not-reached = refl; longer = refl; damaged = refl }
 
 step : stepping.Refusals
 unfolding computing.extracting
-step = record {
-  each = refl;
-  order = refl;
-}
+step = record { each = refl; order = refl }
 
 judge : judging.Refusals
 unfolding computing.judging
@@ -165,21 +140,11 @@ judge = record {
 
 wrap : wrapping.Refusals
 unfolding computing.packets
-wrap = record {
-  wrap = refl;
-  unwrap = refl;
-  wrap-order = refl;
-  unwrap-order = refl;
-}
+wrap = record { wrap = refl; unwrap = refl; wrap-order = refl; unwrap-order = refl }
 
 bitstream : bits.Refusals
 unfolding computing.bitstreams
-bitstream = record {
-  write = refl;
-  write-order = refl;
-  read = refl;
-  read-order = refl;
-}
+bitstream = record { write = refl; write-order = refl; read = refl; read-order = refl }
 
 multiplexed : multiplexing.Frames
 unfolding computing.multiplexing
@@ -230,21 +195,11 @@ stepped = record {
 
 judged : judging.Faults
 unfolding computing.judging
-judged = record {
-  sound = refl;
-  holding = refl;
-  refused = refl;
-  next = refl;
-  later = refl;
-  replayed = refl;
-}
+judged = record { sound = refl; holding = refl; refused = refl; next = refl; later = refl; replayed = refl }
 
 closed : judging.Verdicts
 unfolding computing.judging
-closed = record {
-  each = refl;
-  refused = refl;
-}
+closed = record { each = refl; refused = refl }
 
 wrapped : wrapping.Wrapped
 unfolding computing.packets
@@ -260,10 +215,7 @@ wrapped = record {
 
 unwrapped : wrapping.Units
 unfolding computing.packets
-unwrapped = record {
-  each = refl;
-  part = refl;
-}
+unwrapped = record { each = refl; part = refl }
 
 bits-carried : bits.Frames
 unfolding computing.bitstreams
