@@ -3,7 +3,7 @@ use Rattle.octets.specs.Basics.{number-from, number, octets, field, join, place
 use Rattle.packets.specs.Packet.{limit-in-range, sized, counted, space, header-length, encapsulation, look, states, well-formed, is-idle, key-of, size-of}
 use Rattle.packets.specs.Header.{told, reading, version-of, answer}
 use Rattle.packets.specs.Front.{first-octet, second-octet, front}
-use Rattle.packets.specs.Idle.{idle-header, idle-packet, idle-laid}
+use Rattle.packets.specs.Idle.{idle-header, idle-packet}
 use Rattle.packets.specs.Wrap.{lol-for, wrapped-total, wrapped, wrap-in-range, wrap-rows, wrapping, wraps, extension-of, reserved-of, unwrap-rows, unwrapping, unwraps, run-of, unit-part}
 use Rattle.space.specs.Space.{space-fields, space-word, space-in-range, space-reading, space-reads, space-rows, space-writing}
 use Rattle.frames.specs.Link.{link-in-range, primary, zone-head, header-rows, head-word, headers, count-width, next-count, missing}
@@ -24,7 +24,7 @@ use Rattle.runfile.specs.RunFile as runfile
 use Rattle.runfile.specs.Steps.{may-follow, body-length, taken, closed}
 
 unfoldable pub packets : Unit {0}
-unfolding number-from number octets field join placed part over first number-at laid limit-in-range sized counted space header-length encapsulation look states well-formed is-idle key-of size-of told reading version-of answer first-octet second-octet front idle-header idle-packet idle-laid lol-for wrapped-total wrapped wrap-in-range wrap-rows wrapping wraps extension-of reserved-of unwrap-rows unwrapping unwraps run-of unit-part space-fields space-word space-in-range space-reading space-reads space-rows space-writing
+unfolding number-from number octets field join placed part over first number-at laid limit-in-range sized counted space header-length encapsulation look states well-formed is-idle key-of size-of told reading version-of answer first-octet second-octet front idle-header idle-packet lol-for wrapped-total wrapped wrap-in-range wrap-rows wrapping wraps extension-of reserved-of unwrap-rows unwrapping unwraps run-of unit-part space-fields space-word space-in-range space-reading space-reads space-rows space-writing
 packets = tt
 
 unfoldable pub frames : Unit {0}

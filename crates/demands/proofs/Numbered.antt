@@ -1,7 +1,7 @@
 -- Document 01's numbers and layouts hold, by computing.
 -- Assumes nothing.
 use mathlib.Core.Path.{refl}
-use Rattle.demands.specs.Numbers.{Layouts, Refusals, Doings, Numbers}
+use Rattle.demands.specs.Numbers.{Layouts, Refusals, Outcomes, Numbers}
 use Rattle.demands.specs.Numbers.Ranges.{Edges}
 use Rattle.demands.specs.Numbers.FrameFields as frames
 use Rattle.demands.specs.Numbers.PacketFields.{SpacePackets, EncapsulationPackets}
@@ -53,6 +53,8 @@ frame-read = record {
   bit-pointers = refl;
   bit-unused = refl;
   bit-others = refl;
+  order = refl;
+  bit-order = refl;
   lengths = refl;
   other-lengths = refl;
   other-bit-lengths = refl;
@@ -175,6 +177,7 @@ entered = record {
   held-reserved = refl;
   unfinished = refl;
   damaged = refl;
+  too-long = refl;
   damaged-reserved = refl;
   replayed = refl;
 }
@@ -186,6 +189,7 @@ stepped = record {
   in-frame = refl;
   spent = refl;
   damaged = refl;
+  lengths = refl;
   left = refl;
   appended = refl;
   begun = refl;
@@ -287,7 +291,7 @@ numbers = record {
     wrap = wrap;
     bitstream = bitstream;
   };
-  doings = record {
+  outcomes = record {
     multiplexed = multiplexed;
     entered = entered;
     stepped = stepped;

@@ -47,8 +47,8 @@ pub record Refusals : Type 0 where
   pub wrap : wrapping.Refusals
   pub bitstream : bits.Refusals
 
--- what each call does
-pub record Doings : Type 0 where
+-- what each call does and leaves
+pub record Outcomes : Type 0 where
   pub multiplexed : multiplexing.Frames
   pub entered : entering.Reasons
   pub stepped : stepping.Events
@@ -62,6 +62,6 @@ pub record Numbers : Type 0 where
   pub ranges : Edges
   pub layouts : Layouts
   pub refusals : Refusals
-  pub doings : Doings
+  pub outcomes : Outcomes
   pub run-files : runs.Records
   pub answers : Cases

@@ -8,7 +8,7 @@ use Rattle.bitstream.specs.Bitstream.{begun, Wrote, written, reading, leading-o
 use Rattle.bitstream.specs.declared.Reader.{Reader}
 use Rattle.bitstream.specs.declared.Reader.the-variants.{Fresh, Last}
 use Rattle.bitstream.specs.declared.Reading.{Reading}
-use Rattle.demands.specs.Numbers.Samples.{two-octets, no-octets, frame, lent}
+use Rattle.demands.specs.Numbers.Samples.{two-octets, no-octets, frame, wrong-headers, lent}
 
 -- with a writer of this count, so many octets of bits, n bits, and a frame of so much room
 abbrev pub refuses-write : BitSettings → ℕ → ℕ → ℕ → ℕ → ℕ
@@ -28,7 +28,7 @@ pub record Refusals : Type 0 where
       ∷ []
       ≡ 1 ∷ 1 ∷ 2 ∷ 2 ∷ 10 ∷ 0 ∷ []
   pub write-order : refuses-write two-octets 16777216 0 17 0 ∷ refuses-write two-octets 16777216 0 16 10 ∷ [] ≡ 1 ∷ 2 ∷ []
-  -- 1, 10, 3, 4, 5, 6, 7 and none
+  -- 1, 10, 3, 4, 5, 6, 7 and none; and again all that is wrong at once
   pub read : refuses-read no-octets Fresh (frame 0 0 0 [])
       ∷ refuses-read two-octets (Last 16777216) (frame 0 0 0 (lent 2))
       ∷ refuses-read two-octets Fresh (frame 0 0 0 (lent 3))
@@ -44,11 +44,8 @@ pub record Refusals : Type 0 where
   pub read-order : refuses-read no-octets (Last 16777216) (lent 11)
       ∷ refuses-read two-octets (Last 16777216) (lent 11)
       ∷ refuses-read two-octets Fresh (lent 11)
-      ∷ refuses-read two-octets Fresh (0xFF ∷ 0xFF ∷ 0 ∷ 0 ∷ 0 ∷ 0x7F ∷ 0xC0 ∷ 0x0F ∷ lent 2)
-      ∷ refuses-read two-octets Fresh (0x7F ∷ 0xFF ∷ 0 ∷ 0 ∷ 0 ∷ 0x7F ∷ 0xC0 ∷ 0x0F ∷ lent 2)
-      ∷ refuses-read two-octets Fresh (0x50 ∷ 0x83 ∷ 0 ∷ 0 ∷ 0 ∷ 0x7F ∷ 0xC0 ∷ 0x0F ∷ lent 2)
-      ∷ []
-      ≡ 1 ∷ 10 ∷ 3 ∷ 4 ∷ 5 ∷ 6 ∷ []
+      ∷ map (λ octets. refuses-read two-octets Fresh (octets ++ lent 2)) wrong-headers
+      ≡ 1 ∷ 10 ∷ 3 ∷ 4 ∷ 5 ∷ 6 ∷ 7 ∷ []
 
 -- a frame that is written and the count after it; eleven octets are lent, one more than it has
 abbrev pub writes : ℕ → ℕ → List ℕ → Wrote

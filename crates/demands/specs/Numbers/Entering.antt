@@ -9,18 +9,14 @@ use Rattle.extractor.specs.Records.{checked}
 use Rattle.extractor.specs.Answers.{EnterSaid, enter-answer}
 use Rattle.extractor.specs.declared.Extractor.{Extractor}
 use Rattle.extractor.specs.declared.Extractor.the-variants.{Fresh, Astray, InStep, Walking, Leaving}
-use Rattle.demands.specs.Numbers.Samples.{small, broken, least, frame, lent, ten}
+use Rattle.demands.specs.Numbers.Samples.{small, broken, least, frame, wrong-headers, lent, ten}
 
 abbrev pub refuses : Settings → Extractor → List ℕ → List ℕ → ℕ
 refuses s x store f = enter-answer s x store f .answer .refusal
 
--- a frame in which nothing is right: 19 octets, version 11, another spacecraft and channel, spare bits 1, pointer 10
-abbrev pub wrong : List ℕ
-wrong = 0xFF ∷ 0xFF ∷ 0x00 ∷ 0x00 ∷ 0x00 ∷ 0x7F ∷ 0xF8 ∷ 0x0A ∷ replicate 11 0x00
-
--- the same with its length put right, and then the octets from the first on
-abbrev pub righter : List ℕ → List ℕ
-righter octets = octets ++ replicate 10 0x00
+-- a frame with these eight octets before its zone
+abbrev pub headed : List ℕ → List ℕ
+headed octets = octets ++ replicate 10 0x00
 
 pub record Refusals : Type 0 where
   -- each number alone: 1, 2, 10, 9, 3, 4, 5, 6, 7 and none
@@ -30,26 +26,23 @@ pub record Refusals : Type 0 where
       ∷ refuses small (Walking 0 0 10) (lent 12) (frame 0 0 0 ten)
       ∷ refuses small (Leaving 0) (lent 12) (frame 0 0 0 ten)
       ∷ refuses small Fresh (lent 12) (frame 0 0 0 (0x00 ∷ ten))
-      ∷ refuses small Fresh (lent 12) (righter (0x90 ∷ 0x83 ∷ 0 ∷ 0 ∷ 0 ∷ 0 ∷ 0 ∷ 0 ∷ []))
-      ∷ refuses small Fresh (lent 12) (righter (0x50 ∷ 0xC3 ∷ 0 ∷ 0 ∷ 0 ∷ 0 ∷ 0 ∷ 0 ∷ []))
-      ∷ refuses small Fresh (lent 12) (righter (0x50 ∷ 0x82 ∷ 0 ∷ 0 ∷ 0 ∷ 0 ∷ 0 ∷ 0 ∷ []))
-      ∷ refuses small Fresh (lent 12) (righter (0x50 ∷ 0x83 ∷ 0 ∷ 0 ∷ 0 ∷ 1 ∷ 0 ∷ 0 ∷ []))
+      ∷ refuses small Fresh (lent 12) (headed (0x90 ∷ 0x83 ∷ 0 ∷ 0 ∷ 0 ∷ 0 ∷ 0 ∷ 0 ∷ []))
+      ∷ refuses small Fresh (lent 12) (headed (0x50 ∷ 0xC3 ∷ 0 ∷ 0 ∷ 0 ∷ 0 ∷ 0 ∷ 0 ∷ []))
+      ∷ refuses small Fresh (lent 12) (headed (0x50 ∷ 0x82 ∷ 0 ∷ 0 ∷ 0 ∷ 0 ∷ 0 ∷ 0 ∷ []))
+      ∷ refuses small Fresh (lent 12) (headed (0x50 ∷ 0x83 ∷ 0 ∷ 0 ∷ 0 ∷ 1 ∷ 0 ∷ 0 ∷ []))
       ∷ refuses small Fresh (lent 12) (frame 0 0x08 0 ten)
       ∷ refuses small Fresh (lent 12) (frame 0 0 10 ten)
       ∷ refuses small Fresh (lent 12) (frame 0 0 9 ten)
       ∷ []
       ≡ 1 ∷ 2 ∷ 10 ∷ 9 ∷ 9 ∷ 3 ∷ 4 ∷ 5 ∷ 5 ∷ 6 ∷ 6 ∷ 7 ∷ 0 ∷ []
   -- the order: all that is wrong at once, and then one thing after another put right
-  pub order : refuses broken (Walking 16777216 0 0) [] wrong
-      ∷ refuses small (Walking 16777216 0 0) [] wrong
-      ∷ refuses small (Walking 16777216 0 0) (lent 12) wrong
-      ∷ refuses small (Walking 0 0 0) (lent 12) wrong
-      ∷ refuses small Fresh (lent 12) wrong
-      ∷ refuses small Fresh (lent 12) (righter (0xFF ∷ 0xFF ∷ 0 ∷ 0 ∷ 0 ∷ 0x7F ∷ 0xF8 ∷ 0x0A ∷ []))
-      ∷ refuses small Fresh (lent 12) (righter (0x7F ∷ 0xFF ∷ 0 ∷ 0 ∷ 0 ∷ 0x7F ∷ 0xF8 ∷ 0x0A ∷ []))
-      ∷ refuses small Fresh (lent 12) (righter (0x50 ∷ 0x83 ∷ 0 ∷ 0 ∷ 0 ∷ 0x7F ∷ 0xF8 ∷ 0x0A ∷ []))
-      ∷ []
-      ≡ 1 ∷ 2 ∷ 10 ∷ 9 ∷ 3 ∷ 4 ∷ 5 ∷ 6 ∷ []
+  pub order : refuses broken (Walking 16777216 0 0) [] (lent 19)
+      ∷ refuses small (Walking 16777216 0 0) [] (lent 19)
+      ∷ refuses small (Walking 16777216 0 0) (lent 12) (lent 19)
+      ∷ refuses small (Walking 0 0 0) (lent 12) (lent 19)
+      ∷ refuses small Fresh (lent 12) (lent 19)
+      ∷ map (λ octets. refuses small Fresh (lent 12) (headed octets)) wrong-headers
+      ≡ 1 ∷ 2 ∷ 10 ∷ 9 ∷ 3 ∷ 4 ∷ 5 ∷ 6 ∷ 7 ∷ []
 
 -- what the record and the held octets alone are refused for, with a store that begins so and is long enough
 abbrev pub held : List ℕ → Extractor → ℕ
@@ -108,9 +101,10 @@ pub record Reasons : Type 0 where
   -- a header that stays unfinished: 2,047 agrees, and no other
   pub unfinished : map (λ low. enter-answer least (InStep 0 1) (0x00 ∷ lent 6) (frame 1 0x07 low (0x05 ∷ []))) (0xFF ∷ 0xFE ∷ [])
       ≡ says 1 0 0 0 0 (Walking 1 1 0) ∷ says 1 0 0 1 2 (Walking 1 0 1) ∷ []
-  -- a header that is damaged: reason 3, whatever the pointer
+  -- a header that is damaged, by a length below it or above M: reason 3, whatever the pointer
   pub damaged : map (λ low. enters (InStep 0 1) (0xE9 ∷ []) 1 0 low (0x01 ∷ 0 ∷ [])) (0 ∷ 1 ∷ []) ≡ says 1 0 0 1 3 (Walking 1 0 0) ∷ says 1 0 0 1 3 (Walking 1 0 1) ∷ []
+  pub too-long : enters (InStep 0 1) (0xE9 ∷ []) 1 0x07 0xFF (0x0D ∷ 0 ∷ []) ≡ says 1 0 0 1 3 (Leaving 1)
   pub damaged-reserved : map (λ low. enters (InStep 0 1) (0xE9 ∷ []) 1 0x07 low (0x01 ∷ 0 ∷ [])) (0xFE ∷ 0xFF ∷ [])
       ≡ says 1 0 0 1 3 (Walking 1 0 10) ∷ says 1 0 0 1 3 (Leaving 1) ∷ []
   -- the replay flag is reported
-  pub replayed : enter-answer small Fresh (lent 12) (righter (0x50 ∷ 0x83 ∷ 0 ∷ 0 ∷ 7 ∷ 0x80 ∷ 0 ∷ 0 ∷ [])) ≡ says 7 1 0 0 0 (Walking 7 0 0)
+  pub replayed : enter-answer small Fresh (lent 12) (headed (0x50 ∷ 0x83 ∷ 0 ∷ 0 ∷ 7 ∷ 0x80 ∷ 0 ∷ 0 ∷ [])) ≡ says 7 1 0 0 0 (Walking 7 0 0)

@@ -8,7 +8,7 @@ use Rattle.frames.specs.Frame.{heading, head, head-rows, frame-length}
 use Rattle.frames.specs.BitFrame.{bit-heading, bit-head, bit-head-rows, bit-frame-length}
 use Rattle.frames.specs.Link.{missing}
 use Rattle.frames.specs.declared.Heading.{Heading}
-use Rattle.demands.specs.Numbers.Samples.{set, set-bits, lent}
+use Rattle.demands.specs.Numbers.Samples.{set, set-bits, small, two-octets, wrong-headers, lent}
 
 -- what a header says
 abbrev pub says : ℕ → ℕ → ℕ → Heading
@@ -63,8 +63,12 @@ pub record Read : Type 0 where
   -- the other fields of a bitstream frame are those of a packet frame
   pub bit-others : map read-bits (counting (0x01 ∷ 0x02 ∷ 0x03 ∷ []) ∷ signalling 0x80 ∷ signalling 0x40 ∷ (0xC0 ∷ replicate 7 0) ∷ (0x40 ∷ 0x40 ∷ replicate 6 0) ∷ (0x40 ∷ 0x01 ∷ replicate 6 0) ∷ [])
       ≡ says 66051 0 0 ∷ says 0 1 0 ∷ refused 6 ∷ refused 4 ∷ refused 5 ∷ refused 5 ∷ []
+  -- the order of the refusals
+  pub order : heading small (lent 19) .refusal ∷ map (λ octets. heading small (octets ++ lent 10) .refusal) wrong-headers ≡ 3 ∷ 4 ∷ 5 ∷ 6 ∷ 7 ∷ []
+  pub bit-order : bit-heading two-octets (lent 11) .refusal ∷ map (λ octets. bit-heading two-octets (octets ++ lent 2) .refusal) wrong-headers
+      ≡ 3 ∷ 4 ∷ 5 ∷ 6 ∷ 7 ∷ []
   -- Z+8 and W+8 octets, and no other number of them
-  pub lengths : frame-length (set 0 0 10 12) ∷ bit-frame-length (set-bits 0 0 2) ∷ [] ≡ 18 ∷ 10 ∷ []
+  pub lengths : frame-length small ∷ bit-frame-length two-octets ∷ [] ≡ 18 ∷ 10 ∷ []
   pub other-lengths : map (λ n. heading (set 0 0 10 12) (counting (0 ∷ 0 ∷ 0 ∷ []) ++ replicate n 0x00) .refusal) (9 ∷ 10 ∷ 11 ∷ []) ≡ 3 ∷ 0 ∷ 3 ∷ []
   pub other-bit-lengths : map (λ n. bit-heading (set-bits 0 0 2) (counting (0 ∷ 0 ∷ 0 ∷ []) ++ replicate n 0x00) .refusal) (1 ∷ 2 ∷ 3 ∷ []) ≡ 3 ∷ 0 ∷ 3 ∷ []
 

@@ -26,15 +26,17 @@ wrong = mux 16777216 0 2047 7
 
 pub record Refusals : Type 0 where
   pub begins : begun ≡ mux 0 0 2047 0
-  -- each number alone: 1, 2, 10, 9, 8 and none; the 9 of an idle zone is given during a packet and in a begun zone
+  -- each number alone: 1, 2, 10, 9, 8 and none; 8 also past M; the 9 of an idle zone is given during a packet and in a begun zone
   pub put : refuses broken begun (to-put seven) (lent 18)
       ∷ refuses small begun (to-put seven) (lent 17)
       ∷ refuses small (mux 16777216 0 2047 0) (to-put seven) (lent 18)
       ∷ refuses small during (to-put seven) (lent 18)
       ∷ refuses small begun (to-put (0x20 ∷ [])) (lent 18)
+      ∷ refuses small begun (to-put (0xE5 ∷ 13 ∷ lent 11)) (lent 18)
+      ∷ refuses small begun (to-put (0xE5 ∷ 12 ∷ lent 10)) (lent 18)
       ∷ refuses small during (to-put ten) (lent 18)
       ∷ []
-      ≡ 1 ∷ 2 ∷ 10 ∷ 9 ∷ 8 ∷ 0 ∷ []
+      ≡ 1 ∷ 2 ∷ 10 ∷ 9 ∷ 8 ∷ 8 ∷ 0 ∷ 0 ∷ []
   pub flush : refuses broken begun to-flush (lent 18)
       ∷ refuses small begun to-flush (lent 17)
       ∷ refuses small (mux 16777216 0 2047 0) to-flush (lent 18)
@@ -61,7 +63,7 @@ pub record Refusals : Type 0 where
   pub flush-order : refuses broken wrong to-flush [] ∷ refuses small wrong to-flush [] ∷ refuses small wrong to-flush (lent 18) ∷ [] ≡ 1 ∷ 2 ∷ 10 ∷ []
   pub idle-order : refuses broken wrong to-idle [] ∷ refuses small wrong to-idle [] ∷ refuses small wrong to-idle (lent 18) ∷ [] ≡ 1 ∷ 2 ∷ 10 ∷ []
   -- the records that calls lead to, at their edges
-  pub reached : map (λ m. refuses small m (to-put (0x00 ∷ 0x05 ∷ 0xC0 ∷ 0x00 ∷ 0x00 ∷ 0x05 ∷ lent 6)) (lent 18))
+  pub reached : map (λ m. refuses small m (to-put (0xE5 ∷ 12 ∷ lent 10)) (lent 18))
       (mux 16777215 9 8 0 ∷ mux 0 9 2047 0 ∷ mux 0 0 2047 11 ∷ [])
       ≡ 0 ∷ 0 ∷ 0 ∷ []
   pub not-reached : map (λ m. refuses small m (to-put seven) (lent 18))

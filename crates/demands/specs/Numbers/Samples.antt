@@ -34,6 +34,16 @@ no-octets = set-bits 66 3 0
 abbrev pub frame : ℕ → ℕ → ℕ → List ℕ → List ℕ
 frame count high low zone = 0x50 ∷ 0x83 ∷ 0x00 ∷ 0x00 ∷ count ∷ 0x00 ∷ high ∷ low ∷ zone
 
+-- headers in which less and less is wrong: version 11; another spacecraft and channel; spare bits that are 1; pointer 15, which
+-- neither Z = 10 nor W = 2 has a use for
+abbrev pub wrong-headers : List (List ℕ)
+wrong-headers =
+    (0xFF ∷ 0xFF ∷ 0x00 ∷ 0x00 ∷ 0x00 ∷ 0x7F ∷ 0xF8 ∷ 0x0F ∷ [])
+    ∷ (0x7F ∷ 0xFF ∷ 0x00 ∷ 0x00 ∷ 0x00 ∷ 0x7F ∷ 0xF8 ∷ 0x0F ∷ [])
+    ∷ (0x50 ∷ 0x83 ∷ 0x00 ∷ 0x00 ∷ 0x00 ∷ 0x7F ∷ 0xF8 ∷ 0x0F ∷ [])
+    ∷ (0x50 ∷ 0x83 ∷ 0x00 ∷ 0x00 ∷ 0x00 ∷ 0x00 ∷ 0x00 ∷ 0x0F ∷ [])
+    ∷ []
+
 -- so many octets that are lent
 abbrev pub lent : ℕ → List ℕ
 lent n = replicate n 0xFF

@@ -56,8 +56,9 @@ pub record Events : Type 0 where
   -- the idle packet lies in the frame, after eight octets of headers and three of the zone
   pub in-frame : steps (Walking 1 0 3) [] ≡ says 2 1 11 7 (0xE1 ∷ 0x07 ∷ 0x55 ∷ 0x55 ∷ 0x55 ∷ 0x55 ∷ 0x55 ∷ []) (Walking 1 0 10) (lent 12)
   pub spent : steps (Walking 1 0 10) [] ≡ says 4 0 0 0 [] (InStep 1 0) (lent 12)
-  -- 33 is version 001: damaged, then spent and out of step
+  -- 33 is version 001: damaged, then spent and out of step; so is a packet of 13 octets, but one of 12 is not
   pub damaged : steps (Walking 1 0 2) [] ≡ says 3 0 0 0 [] (Leaving 1) (lent 12)
+  pub lengths : map finds ((0xE5 ∷ 13 ∷ lent 5) ∷ (0xE5 ∷ 12 ∷ lent 5) ∷ []) ≡ 3 ∷ 4 ∷ []
   pub left : steps (Leaving 1) [] ≡ says 4 0 0 0 [] (Astray 1) (lent 12)
   -- unfinished octets go behind those held
   pub appended : step-answer least (Walking 1 1 0) (0x00 ∷ lent 7) (frame 1 0x07 0xFF (0x05 ∷ []))

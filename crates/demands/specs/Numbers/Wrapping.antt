@@ -23,14 +23,15 @@ pub record Refusals : Type 0 where
   pub unwrap : unwrapping 6 (0xE9 ∷ 2 ∷ []) .refusal
       ∷ unwrapping 12 seven .refusal
       ∷ unwrapping 12 (0xE9 ∷ 3 ∷ []) .refusal
+      ∷ unwrapping 12 (0xE9 ∷ 13 ∷ lent 11) .refusal
       ∷ unwrapping 12 [] .refusal
       ∷ unwrapping 12 (0xEA ∷ 0x01 ∷ 0 ∷ 4 ∷ []) .refusal
       ∷ unwrapping 12 (0xEA ∷ 0x08 ∷ 0 ∷ 4 ∷ []) .refusal
       ∷ unwrapping 12 (0xEB ∷ 0 ∷ 0x80 ∷ 0x00 ∷ 0 ∷ 0 ∷ 0 ∷ 8 ∷ []) .refusal
       ∷ unwrapping 12 (0xFB ∷ 0 ∷ 0x00 ∷ 0x01 ∷ 0 ∷ 0 ∷ 0 ∷ 8 ∷ []) .refusal
-      ∷ unwrapping 12 (0xE9 ∷ 2 ∷ []) .refusal
+      ∷ unwrapping 12 (0xE9 ∷ 12 ∷ lent 10) .refusal
       ∷ []
-      ≡ 1 ∷ 8 ∷ 8 ∷ 8 ∷ 6 ∷ 6 ∷ 6 ∷ 6 ∷ 0 ∷ []
+      ≡ 1 ∷ 8 ∷ 8 ∷ 8 ∷ 8 ∷ 6 ∷ 6 ∷ 6 ∷ 6 ∷ 0 ∷ []
   -- the order: all that is wrong at once, and then one thing after another put right
   pub wrap-order : wrapping 6 2 0 [] [] .refusal ∷ wrapping 12 2 0 [] [] .refusal ∷ wrapping 12 2 0 (lent 11) [] .refusal ∷ [] ≡ 1 ∷ 8 ∷ 8 ∷ []
   pub unwrap-order : unwrapping 6 (0xEA ∷ 0x01 ∷ 0 ∷ 5 ∷ []) .refusal ∷ unwrapping 12 (0xEA ∷ 0x01 ∷ 0 ∷ 5 ∷ []) .refusal ∷ [] ≡ 1 ∷ 8 ∷ []
