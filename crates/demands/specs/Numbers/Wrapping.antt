@@ -1,5 +1,5 @@
 -- Wrapping and unwrapping: refusals, the header that is chosen, and its octets.
-use Prim.Native.Nat.{ℕ}
+use Prim.Native.Nat.{ℕ, _+_}
 use mathlib.Core.Path.{_≡_}
 use mathlib.Core.List.{List, [], _∷_, _++_, map}
 use mathlib.Core.Bool.{Bool, true, false}
@@ -36,31 +36,21 @@ pub record Refusals : Type 0 where
   pub wrap-order : wrapping 6 2 0 [] [] .refusal ∷ wrapping 12 2 0 [] [] .refusal ∷ wrapping 12 2 0 (lent 11) [] .refusal ∷ [] ≡ 1 ∷ 8 ∷ 8 ∷ []
   pub unwrap-order : unwrapping 6 (0xEA ∷ 0x01 ∷ 0 ∷ 5 ∷ []) .refusal ∷ unwrapping 12 (0xEA ∷ 0x01 ∷ 0 ∷ 5 ∷ []) .refusal ∷ [] ≡ 1 ∷ 8 ∷ []
 
--- the total and the first eight octets of the packet that a unit of n octets AA is wrapped in
-pub record Front : Type 0 where
-  pub total : ℕ
-  pub octets : List ℕ
-
-abbrev pub front : ℕ → List ℕ → Front
-front total octets = record { total = total; octets = octets }
-
-abbrev pub wraps : ℕ → ℕ → ℕ → Front
-wraps protocol extension n =
-    let w : Wrapping = wrapping 65542 protocol extension (replicate n 0xAA) (lent 65542) in
-    front (w .total) (take 8 (w .output))
+-- the first eight octets of the packet that n octets AA are wrapped in
+abbrev pub wraps : ℕ → ℕ → ℕ → List ℕ
+wraps protocol extension n = take 8 (wrapping 65542 protocol extension (replicate n 0xAA) (lent (n + 8)) .output)
 
 pub record Wrapped : Type 0 where
   -- what is written: the packet and nothing else
   pub two : wrapping 12 2 0 (0xAA ∷ 0xBB ∷ []) (lent 5) ≡ record { accepted = true; refusal = 0; total = 4; output = 0xE9 ∷ 4 ∷ 0xAA ∷ 0xBB ∷ 0xFF ∷ [] }
   pub refused : wrapping 12 2 0 [] (lent 2) ≡ record { accepted = false; refusal = 8; total = 0; output = lent 2 }
   -- protocol and extension at their places; protocol 6 has four octets at least, and user is written 0
-  pub protocols : map (λ protocol. wraps protocol 0 6) (1 ∷ 4 ∷ 7 ∷ []) ≡ map (λ o. front 8 (o ∷ 8 ∷ replicate 6 0xAA)) (0xE5 ∷ 0xF1 ∷ 0xFD ∷ [])
-  pub extensions : map (λ extension. wraps 6 extension 4) (0 ∷ 1 ∷ 8 ∷ 15 ∷ []) ≡ map (λ o. front 8 (0xFA ∷ o ∷ 0 ∷ 8 ∷ replicate 4 0xAA)) (0 ∷ 1 ∷ 8 ∷ 15 ∷ [])
+  pub protocols : map (λ protocol. wraps protocol 0 6) (1 ∷ 4 ∷ 7 ∷ []) ≡ map (λ o. o ∷ 8 ∷ replicate 6 0xAA) (0xE5 ∷ 0xF1 ∷ 0xFD ∷ [])
+  pub extensions : map (λ extension. wraps 6 extension 4) (0 ∷ 1 ∷ 8 ∷ 15 ∷ []) ≡ map (λ o. 0xFA ∷ o ∷ 0 ∷ 8 ∷ replicate 4 0xAA) (0 ∷ 1 ∷ 8 ∷ 15 ∷ [])
   -- the header: two octets to a total of 255, then four to 65,535, then eight
-  pub pass-10 : map (wraps 2 0) (253 ∷ 254 ∷ []) ≡ front 255 (0xE9 ∷ 0xFF ∷ replicate 6 0xAA) ∷ front 258 (0xEA ∷ 0 ∷ 0x01 ∷ 0x02 ∷ replicate 4 0xAA) ∷ []
-  pub pass-11 : map (wraps 2 0) (65531 ∷ 65532 ∷ [])
-      ≡ front 65535 (0xEA ∷ 0 ∷ 0xFF ∷ 0xFF ∷ replicate 4 0xAA) ∷ front 65540 (0xEB ∷ 0 ∷ 0 ∷ 0 ∷ 0x00 ∷ 0x01 ∷ 0x00 ∷ 0x04 ∷ []) ∷ []
-  pub extended : wraps 6 9 65532 ≡ front 65540 (0xFB ∷ 9 ∷ 0 ∷ 0 ∷ 0x00 ∷ 0x01 ∷ 0x00 ∷ 0x04 ∷ [])
+  pub pass-10 : map (wraps 2 0) (253 ∷ 254 ∷ []) ≡ (0xE9 ∷ 0xFF ∷ replicate 6 0xAA) ∷ (0xEA ∷ 0 ∷ 0x01 ∷ 0x02 ∷ replicate 4 0xAA) ∷ []
+  pub pass-11 : map (wraps 2 0) (65531 ∷ 65532 ∷ []) ≡ (0xEA ∷ 0 ∷ 0xFF ∷ 0xFF ∷ replicate 4 0xAA) ∷ (0xEB ∷ 0 ∷ 0 ∷ 0 ∷ 0x00 ∷ 0x01 ∷ 0x00 ∷ 0x04 ∷ []) ∷ []
+  pub extended : wraps 6 9 65532 ≡ 0xFB ∷ 9 ∷ 0 ∷ 0 ∷ 0x00 ∷ 0x01 ∷ 0x00 ∷ 0x04 ∷ []
 
 -- what unwrapping answers: protocol, extension, where the unit starts and how long it is
 abbrev pub says : ℕ → ℕ → ℕ → ℕ → Unwrapping
