@@ -30,7 +30,9 @@ use Rattle.bitstream.specs.declared.Reading.{Reading}
 use Rattle.demands.specs.Carries.{Among}
 use Rattle.demands.specs.Numbers.Only.{OnlyThese}
 use Rattle.demands.proofs.Promised.{by-rows, through}
-use Rattle.demands.proofs.Demand1.{unrefused, closes-unrefused, told-unrefused, reading-by-row}
+use Rattle.demands.proofs.calls.Extractor.{unrefused}
+use Rattle.demands.proofs.calls.Judge.{closes-unrefused}
+use Rattle.demands.proofs.calls.Packets.{told-unrefused, reading-by-row}
 
 abbrev numbers : List Row → List ℕ
 numbers rows = map (λ (r : Row). r .refusal) rows
