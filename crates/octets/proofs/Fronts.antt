@@ -5,8 +5,10 @@ use mathlib.Core.List.{List, [], _∷_, _++_, append-assoc}
 use Prim.Native.Nat.{ℕ, zero, suc, _+_, _-_, _/_, _^_, _≤_, _<_}
 use native.Mathlib.Nat.{mod-lt}
 use native.Mathlib.Omega.{arith}
-use lib.ListN.{replicate, length, take, drop, length-append, length-drop}
+use lib.ListN.{replicate, length, take, drop, getD, length-append, length-drop}
 use lib.Seq.{take-append-le, length-take-le, drop-append-le, drop-append-add, drop-drop}
+use mir.Syntax.{w8}
+use mir.Val.{Fits}
 use Rattle.octets.specs.Basics.{All, AllOctets, octets, over, part}
 
 -- what is written over a buffer, with what stands before it, is its new front
@@ -36,6 +38,17 @@ part-append from to xs ys h k =
 
 -- ---- every element is an octet
 
+-- so it is of a slice
+pub all-known : (os : List ℕ) → ((i : ℕ) → Fits w8 (getD os i 0)) → AllOctets os
+all-known [] known = tt
+all-known (o ∷ os) known = (known 0 .fits, all-known os (λ i. known (suc i)))
+
+-- and of the octet at any place, also past the end
+pub octet-lt : (os : List ℕ) → AllOctets os → (i : ℕ) → getD os i 0 < 256
+octet-lt [] small i = omega arith
+octet-lt (o ∷ os) small zero = small .0
+octet-lt (o ∷ os) small (suc i) = octet-lt os (small .1) i
+
 pub all-take : (n : ℕ) (os : List ℕ) → AllOctets os → AllOctets (take n os)
 all-take zero os small = tt
 all-take (suc n) [] small = tt
@@ -53,9 +66,12 @@ all-joined P (x ∷ xs) ys h k = (h .0, all-joined P xs ys (h .1) k)
 pub all-append : (xs ys : List ℕ) → AllOctets xs → AllOctets ys → AllOctets (xs ++ ys)
 all-append = all-joined (λ o. o < 256)
 
+pub all-filled : (n : ℕ) {o : ℕ} → o < 256 → AllOctets (replicate n o)
+all-filled zero small = tt
+all-filled (suc n) small = (small, all-filled n small)
+
 pub all-zeros : (n : ℕ) → AllOctets (replicate n 0)
-all-zeros zero = tt
-all-zeros (suc n) = (omega arith, all-zeros n)
+all-zeros n = all-filled n (omega arith)
 
 pub all-octets : (k n : ℕ) → AllOctets (octets k n)
 unfolding octets

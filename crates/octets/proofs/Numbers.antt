@@ -6,28 +6,14 @@ use Prim.Native.Nat.{ℕ, zero, suc, _+_, _*_, _/_, _%_, _^_, _≤_, _<_}
 use native.Mathlib.Nat.{add-mul, mul-assoc, mul-one, zero-add, add-zero, mul-suc, add-assoc, add-comm, mod-one, mod-eq-of-lt, one-le-pow, zero-lt-suc, pow-zero, pow-succ'}
 use native.Mathlib.Omega.{arith}
 use lib.ListN.{length, take, drop, getD, length-drop, List·getD-eq-default}
-use lib.Seq.{take-add, drop-drop, getD-drop, length-take-le, drop-cons}
+use lib.Seq.{take-add, drop-drop, length-take-le, drop-cons}
 use lib.Bits.{bitOr, or-shifted}
 use lib.Pow.{pow-add, shl-exact}
 use lib.Arith.{digits-lt, digits-div, digits-mod, mod-mul}
-use mir.Syntax.{w8}
-use mir.Val.{Fits}
 use borrow.Author.Tests.{le-leb, lt-leb}
 use Rattle.octets.proofs.Choices.{split}
-use Rattle.octets.specs.Basics.{number, number-from, number-at, octets}
-
--- every element is an octet
-abbrev pub Octets : List ℕ → Type 0
-Octets s = (i : ℕ) → Fits w8 (getD s i 0)
-
-pub octets-drop : (k : ℕ) (s : List ℕ) → Octets s → Octets (drop k s)
-octets-drop k s h i = rw (getD-drop k s i 0) (h (k + i))
-
-pub octets-take : (k : ℕ) (s : List ℕ) → Octets s → Octets (take k s)
-octets-take zero s h i = record { fits = omega arith }
-octets-take (suc k) [] h i = h i
-octets-take (suc k) (o ∷ s) h zero = h zero
-octets-take (suc k) (o ∷ s) h (suc i) = octets-take k s (λ j. h (suc j)) i
+use Rattle.octets.proofs.Fronts.{all-take, all-drop}
+use Rattle.octets.specs.Basics.{AllOctets, number, number-from, number-at, octets}
 
 from-append : (n : ℕ) (a b : List ℕ) → number-from n (a ++ b) ≡ number-from (number-from n a) b
 unfolding number-from
@@ -49,17 +35,17 @@ from-split n (o ∷ a) =
     ∙ sym (ap (λ (k : ℕ). n * k + number-from (0 + o) a) (bits-more (length a))
     ∙ ap (λ (k : ℕ). n * (256 * p) + k) (ap (λ (k : ℕ). number-from k a) (zero-add o) ∙ from-split o a))
 
-number-lt : (a : List ℕ) → Octets a → number a < 2 ^ (8 * length a)
+number-lt : (a : List ℕ) → AllOctets a → number a < 2 ^ (8 * length a)
 unfolding number number-from
 number-lt [] h = omega arith
 number-lt (o ∷ a) h =
-    rw (bits-more, zero-add, from-split o a) (digits-lt (h 0 .fits) (number-lt a (λ i. h (suc i))))
+    rw (bits-more, zero-add, from-split o a) (digits-lt (h .0) (number-lt a (h .1)))
 
 -- the octets from `at` make less than their bits hold
-pub run-lt : (s : List ℕ) (at n : ℕ) → Octets s → at + n ≤ length s → number (take n (drop at s)) < 2 ^ (8 * n)
+pub run-lt : (s : List ℕ) (at n : ℕ) → AllOctets s → at + n ≤ length s → number (take n (drop at s)) < 2 ^ (8 * n)
 run-lt s at n h k =
     let e : length (take n (drop at s)) ≡ n = length-take-le n (drop at s) (rw length-drop (omega arith)) in
-    rw e at (number-lt (take n (drop at s)) (octets-take n (drop at s) (octets-drop at s h)))
+    rw e at (number-lt (take n (drop at s)) (all-take n (drop at s) (all-drop at s h)))
 
 -- m octets and the k octets after them
 pub run-join : (s : List ℕ) (at m k : ℕ) → at + (m + k) ≤ length s
@@ -70,7 +56,7 @@ run-join s at m k h =
     rw (take-add m k (drop at s), drop-drop m at s, from-append, from-split (number-from 0 (take m (drop at s))) (take k (drop (at + m) s)), e)
 
 -- the same by a shift and an or, within a word
-pub shift-or : (bits : ℕ) (s : List ℕ) (at m k : ℕ) → Octets s → at + (m + k) ≤ length s → 8 * m + 8 * k ≤ bits
+pub shift-or : (bits : ℕ) (s : List ℕ) (at m k : ℕ) → AllOctets s → at + (m + k) ≤ length s → 8 * m + 8 * k ≤ bits
     → bitOr (number (take m (drop at s)) * 2 ^ (8 * k) % 2 ^ bits) (number (take k (drop (at + m) s))) ≡ number (take (m + k) (drop at s))
 shift-or bits s at m k o h f =
     rw (
@@ -114,20 +100,20 @@ octet-bits : (k : ℕ) → 256 ^ k ≡ 2 ^ (8 * k)
 octet-bits zero = refl
 octet-bits (suc k) = pow-succ' 256 k ∙ ap (λ (n : ℕ). 256 * n) (octet-bits k) ∙ sym (bits-more k)
 
-from-written : (os : List ℕ) → Octets os → (n : ℕ) → octets (length os) (number-from n os) ≡ os
+from-written : (os : List ℕ) → AllOctets os → (n : ℕ) → octets (length os) (number-from n os) ≡ os
 unfolding octets number-from
 from-written [] h n = refl
 from-written (o ∷ os) h n =
     let k : ℕ = length os in
-    let below : number os < 256 ^ k = rw (octet-bits k) (number-lt os (λ i. h (suc i))) in
+    let below : number os < 256 ^ k = rw (octet-bits k) (number-lt os (h .1)) in
     let parts : number-from (n * 256 + o) os ≡ (n * 256 + o) * 256 ^ k + number os =
     rw (octet-bits k) (from-split (n * 256 + o) os) in
     let top : number-from (n * 256 + o) os / 256 ^ k % 256 ≡ o =
-    ap (λ (m : ℕ). m / 256 ^ k % 256) parts ∙ ap (λ (m : ℕ). m % 256) (digits-div (n * 256 + o) below) ∙ digits-mod n (h 0 .fits) in
-    cc (top, from-written os (λ i. h (suc i)) (n * 256 + o))
+    ap (λ (m : ℕ). m / 256 ^ k % 256) parts ∙ ap (λ (m : ℕ). m % 256) (digits-div (n * 256 + o) below) ∙ digits-mod n (h .0) in
+    cc (top, from-written os (h .1) (n * 256 + o))
 
 -- octets read as a number are written back
-pub octets-number : (os : List ℕ) → Octets os → octets (length os) (number os) ≡ os
+pub octets-number : (os : List ℕ) → AllOctets os → octets (length os) (number os) ≡ os
 unfolding number
 octets-number os h = from-written os h 0
 
@@ -138,8 +124,8 @@ octet-at s at =
     (λ h. number-past 1 at s h ∙ sym (List·getD-eq-default s 0 (omega arith)))
 
 -- the same of a run of octets
-pub octets-again : (s : List ℕ) (at n : ℕ) → Octets s → at + n ≤ length s → octets n (number (take n (drop at s))) ≡ take n (drop at s)
+pub octets-again : (s : List ℕ) (at n : ℕ) → AllOctets s → at + n ≤ length s → octets n (number (take n (drop at s))) ≡ take n (drop at s)
 octets-again s at n o h =
     let run : List ℕ = take n (drop at s) in
     let long : length run ≡ n = length-take-le n (drop at s) (rw length-drop (omega arith)) in
-    ap (λ (k : ℕ). octets k (number run)) (sym long) ∙ octets-number run (octets-take n (drop at s) (octets-drop at s o))
+    ap (λ (k : ℕ). octets k (number run)) (sym long) ∙ octets-number run (all-take n (drop at s) (all-drop at s o))

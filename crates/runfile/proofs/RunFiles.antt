@@ -10,9 +10,9 @@ use lib.ListN.{length, take, drop, length-append, length-drop, take-append-drop}
 use lib.Seq.{take-at, drop-at, take-all, take-append-le, drop-append-le, drop-cons, drop-drop, length-take-le}
 use lib.Dec.{leb, eqb}
 use borrow.Author.Tests.{le-leb, leb-true, eqb-true}
-use Rattle.octets.specs.Basics.{and, All, octets, number-at}
+use Rattle.octets.specs.Basics.{and, All, AllOctets, octets, number-at}
 use Rattle.octets.proofs.Choices.{and-true}
-use Rattle.octets.proofs.Numbers.{Octets, number-octets, number-within, octets-again}
+use Rattle.octets.proofs.Numbers.{number-octets, number-within, octets-again}
 use Rattle.frames.specs.Frame.{frame-length, most-frames}
 use Rattle.frames.specs.declared.Settings.{Settings}
 use Rattle.runfile.specs.RunFile.{setup-length, setup-of, fits, Reading, stop, with-setup, with-frame, body, beyond, records, stands, ending, nothing-after, reading, Recorded, setup-octets, frame-octets, run-file, Run, whole}
@@ -132,14 +132,14 @@ frames-read (suc most) size n os h e =
     frame-read most size n os (frames-read most size (n + 1) (beyond size os)) (and (stands 2 size os) (leb n most-frames)) refl h e
 
 -- the octets of a body, with more octets after it, are those of the numbers that it says
-again : (b rest : List ℕ) (n at : ℕ) → Octets (b ++ rest) → at + n ≤ length b → octets n (number-at n at b) ≡ take n (drop at b)
+again : (b rest : List ℕ) (n at : ℕ) → AllOctets (b ++ rest) → at + n ≤ length b → octets n (number-at n at b) ≡ take n (drop at b)
 again b rest n at o h =
     let within : at + n ≤ length (b ++ rest) = rw length-append (omega arith) in
     let same : take n (drop at (b ++ rest)) ≡ take n (drop at b) =
     rw (drop-append-le at b rest (omega arith)) (take-append-le n (drop at b) rest (rw length-drop (omega arith))) in
     rw (number-within n at b h) (rw same at (octets-again (b ++ rest) at n o within))
 
-setup-again : (b rest : List ℕ) → Octets (b ++ rest) → length b ≡ setup-length → setup-octets (setup-of b) ≡ b
+setup-again : (b rest : List ℕ) → AllOctets (b ++ rest) → length b ≡ setup-length → setup-octets (setup-of b) ≡ b
 unfolding setup-of setup-octets
 setup-again b rest o e =
     rw (again b rest 2 2 o (omega arith), again b rest 3 4 o (omega arith))
@@ -151,7 +151,7 @@ setup-again b rest o e =
       take-all 3 (drop 4 b) (rw length-drop (omega arith)),
     ))
 
-module _ (os : List ℕ) (o : Octets os) where
+module _ (os : List ℕ) (o : AllOctets os) where
   abbrev settings : Settings
   settings = setup-of (body setup-length os)
 
@@ -163,7 +163,7 @@ module _ (os : List ℕ) (o : Octets os) where
   unfolding setup-of run-file
   run-after first fit e =
       let split = stood 1 setup-length os first in
-      let o' : Octets (1 ∷ (body setup-length os ++ after)) = subst Octets (split .0) o in
+      let o' : AllOctets (1 ∷ (body setup-length os ++ after)) = subst AllOctets (split .0) o in
       let rest = frames-read (length os) (frame-length settings) 1 after (omega arith) e in
       record {
         settings = settings;
@@ -177,7 +177,7 @@ module _ (os : List ℕ) (o : Octets os) where
             };
         octets-are =
             split .0
-            ∙ ap (λ (b : List ℕ). 1 ∷ (b ++ after)) (sym (setup-again (body setup-length os) after (λ i. o' (suc i)) (split .1)))
+            ∙ ap (λ (b : List ℕ). 1 ∷ (b ++ after)) (sym (setup-again (body setup-length os) after (o' .1) (split .1)))
             ∙ ap (λ (l : List ℕ). 1 ∷ (setup-octets settings ++ l)) (rest .octets-are);
       }
 

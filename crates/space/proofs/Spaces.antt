@@ -10,11 +10,12 @@ use lib.Dec.{eqb}
 use lib.ListN.{length, take, take-append-drop}
 use lib.Seq.{length-take-le}
 use borrow.Author.Tests.{leb-true, le-leb, ltb-false, le-ltb, eqb-true, eq-eqb, not-false}
-use Rattle.octets.specs.Basics.{number, number-at, octets, over, read, write, first}
+use Rattle.octets.specs.Basics.{AllOctets, number, number-at, octets, over, read, write, first}
 use Rattle.octets.specs.declared.Place.{Place}
 use Rattle.octets.proofs.Choices.{and-true, or-false, none-holds}
 use Rattle.octets.proofs.Fields.{field-within, placed-within, placed-read, placed-above, agree-on}
-use Rattle.octets.proofs.Numbers.{Octets, octets-take, run-lt, number-within, number-octets, octets-number}
+use Rattle.octets.proofs.Fronts.{all-take}
+use Rattle.octets.proofs.Numbers.{run-lt, number-within, number-octets, octets-number}
 use Rattle.octets.proofs.Written.{length-octets, length-over, over-take}
 use Rattle.space.specs.declared.SpaceHeader.{SpaceHeader}
 use Rattle.space.specs.Space.{version-at, type-at, secondary-at, apid-at, flags-at, count-at, length-at, space-fields, space-word, space-in-range, space-read-rows, space-reading, space-rows, space-writing}
@@ -231,7 +232,7 @@ space-written-read h output e =
     rw (e, accepts (over output 0 os) (omega arith) version, word, back) refl
 
 -- six octets that are read are written back
-pub space-read-written : (os : List ℕ) → Octets os → first (space-read-rows os) ≡ 0
+pub space-read-written : (os : List ℕ) → AllOctets os → first (space-read-rows os) ≡ 0
     → space-writing (space-reading os .header) os ≡ record { refusal = 0; output = os }
 unfolding space-writing space-reading space-rows first over space-fields
 space-read-written os o accepted =
@@ -243,6 +244,6 @@ space-read-written os o accepted =
     let below : word < 2 ^ 48 = subst (λ (m : ℕ). m < 2 ^ 48) (sym e) (run-lt os 0 6 o k) in
     let same : octets 6 (space-word (space-fields word)) ≡ take 6 os =
     ap (octets 6) (word-fields word below ∙ e)
-    ∙ subst (λ (m : ℕ). octets m (number (take 6 os)) ≡ take 6 os) n (octets-number (take 6 os) (octets-take 6 os o)) in
+    ∙ subst (λ (m : ℕ). octets m (number (take 6 os)) ≡ take 6 os) n (octets-number (take 6 os) (all-take 6 os o)) in
     let six : 0 + length (take 6 os) ≡ 6 = omega arith in
     rw (accepted, le-ltb (length os) 6 k, in-range (space-fields word) (a .1) (fields-ranged word), same, six, take-append-drop 6 os) refl
