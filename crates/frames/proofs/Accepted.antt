@@ -1,20 +1,22 @@
 -- What a frame that is not refused is like: its length, its zone, its pointer.
 -- Assumes nothing.
-use mathlib.Core.Path.{_≡_, refl, sym}
+use mathlib.Core.Path.{_≡_, refl}
 use mathlib.Core.List.{List}
-use mathlib.Core.Bool.{false}
+use mathlib.Core.Bool.{true, false}
 use Prim.Native.Nat.{ℕ, _<_, _^_}
 use native.Mathlib.Omega.{arith}
 use lib.ListN.{length, drop, length-drop}
 use lib.Seq.{take-all}
 use lib.Dec.{leb, eqb}
 use borrow.Author.Tests.{leb-false, eqb-true, eqb-false}
-use Rattle.octets.specs.Basics.{and, first}
+use Rattle.octets.specs.Basics.{first}
+use Rattle.octets.proofs.Choices.{refusal-kept}
 use Rattle.octets.proofs.Fields.{field-lt}
 use Rattle.octets.proofs.Tests.{test}
 use Rattle.frames.specs.Link.{zone-at, zone-head}
-use Rattle.frames.specs.Frame.{idle-zone, no-start, frame-length, frame-rows, zone-of, count, replay, pointer, heading, heading-of}
+use Rattle.frames.specs.Frame.{idle-zone, no-start, in-range, frame-length, frame-rows, zone-of, count, replay, pointer, unused, heading-rows, heading, heading-of}
 use Rattle.frames.specs.declared.Settings.{Settings}
+use Rattle.frames.specs.declared.Heading.{Heading}
 use Rattle.frames.proofs.Rows.{sound-frame}
 
 -- the zone of a frame of the right length is all that follows its head
@@ -36,7 +38,8 @@ pub record Accepted (s : Settings) (f : List ℕ) : Type 0 where
   pub right-length : length f ≡ frame-length s
   pub pointed : Pointed s f
 
-which-pointer : (s : Settings) (f : List ℕ) → and (leb (s .zone) (pointer s f)) (leb (pointer s f) 2045) ≡ false → Pointed s f
+which-pointer : (s : Settings) (f : List ℕ) → unused s (pointer s f) ≡ false → Pointed s f
+unfolding unused
 which-pointer s f e =
     let p : ℕ = pointer s f in
     let small : p < 2 ^ 11 = field-lt (zone-head (s .link) f) 0 11 in
@@ -50,15 +53,12 @@ accepted s f e =
     let sound = sound-frame s f e in
     record { right-length = sound .length-right; pointed = which-pointer s f (sound .header .pointer-used) }
 
--- its header says what stands in it
-pub accepted-heading : (s : Settings) (f : List ℕ) → first (frame-rows s f) ≡ 0
+-- its header says what stands in it, where the settings are in range
+pub accepted-heading : (s : Settings) (f : List ℕ) → in-range s ≡ true → first (frame-rows s f) ≡ 0
     → heading s f ≡ record { refusal = 0; count = count s f; replay = replay s f; pointer = pointer s f }
-unfolding heading heading-of
-accepted-heading s f e = rw e refl
+unfolding heading heading-rows heading-of first
+accepted-heading s f ok e = rw (ok, e) refl
 
-pub heading-refusal : (s : Settings) (f : List ℕ) → heading s f .refusal ≡ first (frame-rows s f)
+pub heading-refusal : (s : Settings) (f : List ℕ) → heading s f .refusal ≡ first (heading-rows s f)
 unfolding heading heading-of
-heading-refusal s f =
-    test (eqb (first (frame-rows s f)) 0)
-    (λ t. rw t (sym (eqb-true (first (frame-rows s f)) 0 t)))
-    (λ t. rw t refl)
+heading-refusal s f = refusal-kept (λ (h : Heading). h .refusal) (first (heading-rows s f)) _ _ refl refl

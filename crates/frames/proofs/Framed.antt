@@ -1,21 +1,22 @@
 -- A frame that is put together from a count, a pointer and a zone, read back.
 -- Assumes nothing.
-use mathlib.Core.Path.{_≡_, _∙_}
+use mathlib.Core.Path.{_≡_}
 use mathlib.Core.List.{List, _++_}
 use mathlib.Core.Bool.{true, false}
-use Prim.Native.Nat.{ℕ, _+_, _<_, _^_}
+use Prim.Native.Nat.{ℕ, _<_, _^_}
 use native.Mathlib.Omega.{arith}
 use lib.ListN.{length, take, length-append}
 use lib.Seq.{take-at, drop-at, take-all}
 use lib.Dec.{leb}
 use borrow.Author.Tests.{lt-leb, eq-eqb}
-use Rattle.octets.specs.Basics.{and, first}
+use Rattle.octets.specs.Basics.{first}
 use Rattle.octets.proofs.Choices.{and-false}
-use Rattle.frames.specs.Link.{header-rows, count-width}
-use Rattle.frames.specs.Frame.{in-range, frame-length, frame-rows, zone-of, version, spacecraft, channel, count, spare, zone-spare, pointer, head}
+use Rattle.frames.specs.Link.{count-width}
+use Rattle.frames.specs.Frame.{in-range, frame-length, frame-rows, zone-of, count, zone-spare-place, pointer-place, pointer, unused, head}
+use Rattle.frames.specs.Statements.{HeadersBack}
 use Rattle.frames.specs.declared.Settings.{Settings}
-use Rattle.frames.proofs.ReadBack.{length-head, version-read, spacecraft-read, channel-read, count-read, spare-read, zone-spare-read, pointer-read}
-use Rattle.frames.proofs.Settled.{settled}
+use Rattle.frames.proofs.ReadBack.{length-head, head-back, back-sound}
+use Rattle.frames.proofs.Rows.{header-taken}
 
 -- a frame of the channel with this count, this pointer and this zone
 unfoldable pub framed : Settings → ℕ → ℕ → List ℕ → List ℕ
@@ -23,12 +24,14 @@ framed s c p z = head s c p ++ z
 
 -- a pointer that no row refuses
 abbrev pub Used : Settings → ℕ → Type 0
-Used s p = and (leb (s .zone) p) (leb p 2045) ≡ false
+Used s p = unused s p ≡ false
 
 pub pointer-inside : (s : Settings) (p : ℕ) → p < s .zone → Used s p
+unfolding unused
 pointer-inside s p low = rw (lt-leb (s .zone) p low)
 
 pub pointer-beyond : (s : Settings) (p : ℕ) → 2045 < p → Used s p
+unfolding unused
 pointer-beyond s p high = rw (lt-leb p 2045 high) (and-false (leb (s .zone) p))
 
 -- what such a frame is read as
@@ -45,6 +48,9 @@ module _ (s : Settings) (c p : ℕ) (z : List ℕ) (ok : in-range s ≡ true) (w
   unfolding framed
   headed = take-at (head s c p) z 8 (length-head s c p)
 
+  back : HeadersBack (s .link) zone-spare-place pointer-place c p (framed s c p z)
+  back = head-back s c p (framed s c p z) ok wheel short headed
+
   long : length (framed s c p z) ≡ frame-length s
   unfolding framed frame-length
   long = omega (arith, length-append (head s c p) z, length-head s c p)
@@ -54,26 +60,14 @@ module _ (s : Settings) (c p : ℕ) (z : List ℕ) (ok : in-range s ≡ true) (w
   zoned = rw (drop-at (head s c p) z 8 (length-head s c p)) (take-all (s .zone) z (omega arith))
 
   unrefused : first (frame-rows s (framed s c p z)) ≡ 0
-  unfolding frame-rows header-rows first
-  unrefused =
-      let f : List ℕ = framed s c p z in
-      let r = settled s ok in
-      rw (
-        eq-eqb (length f) (frame-length s) long,
-        eq-eqb (version s f) 1 (version-read s r c p wheel short f headed),
-        eq-eqb (spacecraft s f) (s .link .spacecraft) (spacecraft-read s r c p wheel short f headed),
-        eq-eqb (channel s f) (s .link .channel) (channel-read s r c p wheel short f headed),
-        eq-eqb (spare s f) 0 (spare-read s r c p wheel short f headed),
-        eq-eqb (zone-spare s f) 0 (zone-spare-read s r c p wheel short f headed),
-        pointer-read s r c p wheel short f headed,
-        used,
-      )
+  unfolding frame-rows first
+  unrefused = rw (eq-eqb _ _ long) (header-taken (s .link) _ _ _ (back-sound (unused s) back used))
 
   pub framed-is : Framed s c p z (framed s c p z)
   framed-is = record {
     its-length = long;
-    its-count = count-read s (settled s ok) c p wheel short (framed s c p z) headed;
-    its-pointer = pointer-read s (settled s ok) c p wheel short (framed s c p z) headed;
+    its-count = back .count-back;
+    its-pointer = back .pointer-back;
     its-zone = zoned;
     taken = unrefused;
   }

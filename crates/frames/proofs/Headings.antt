@@ -35,12 +35,13 @@ module _ (l : Link) (spare pointer : Place) (unused : ℕ → Bool) where
   abbrev pub heading-by : ℕ → ℕ → ℕ → Heading
   heading-by n head zone = heading-of n (read count-place head) (read replay-place head) (read pointer zone)
 
-  pub heading-reads : (f : List ℕ) (len : ℕ) (t : Bool) (n head zone : ℕ) → 8 ≤ len → eqb (length f) len ≡ t
-      → head ≡ number-at 6 0 f → zone ≡ number-at 2 6 f → n ≡ pick (not t) 3 (first (rows-by head zone))
+  pub heading-reads : (f : List ℕ) (len : ℕ) (settled long : Bool) (n head zone : ℕ) → 8 ≤ len → eqb (length f) len ≡ long
+      → head ≡ number-at 6 0 f → zone ≡ number-at 2 6 f → n ≡ pick (not settled) 1 (pick (not long) 3 (first (rows-by head zone)))
       → heading-by n head zone
-      ≡ heading-by (first (row 3 (not (eqb (length f) len)) ∷ rows-by (primary l f) (zone-head l f))) (primary l f) (zone-head l f)
+      ≡ heading-by (first (row 1 (not settled) ∷ row 3 (not (eqb (length f) len)) ∷ rows-by (primary l f) (zone-head l f))) (primary l f) (zone-head l f)
   unfolding heading-of first
-  heading-reads f len true n head zone k e h z r =
+  heading-reads f len true true n head zone k e h z r =
       let room : 8 ≤ length f = omega (arith, eqb-true (length f) len e) in
       rw (r, h, z, primary-at l f room, zone-head-at l f room, e) refl
-  heading-reads f len false n head zone k e h z r = rw (r, e) refl
+  heading-reads f len true false n head zone k e h z r = rw (r, e) refl
+  heading-reads f len false long n head zone k e h z r = rw r refl

@@ -2,16 +2,16 @@
 -- Assumes nothing.
 use mathlib.Core.Path.{_≡_, refl, subst}
 use mathlib.Core.List.{List, _++_}
-use mathlib.Core.Bool.{true}
+use mathlib.Core.Bool.{Bool, true, false, not}
 use Prim.Native.Nat.{ℕ, _+_, _^_, _≤_, _<_}
 use native.Mathlib.Omega.{arith}
 use lib.ListN.{length}
 use borrow.Author.Tests.{ltb-false, lt-ltb, le-ltb}
-use Rattle.octets.specs.Basics.{octets, over, laid, first}
+use Rattle.octets.specs.Basics.{and, octets, over, laid, first}
 use Rattle.octets.proofs.Choices.{none-holds}
 use Rattle.octets.proofs.Written.{laid-within, length-octets, length-over, over-over}
-use Rattle.frames.specs.Link.{head-word, headers, count-width}
-use Rattle.frames.specs.Frame.{in-range, head-rows}
+use Rattle.frames.specs.Link.{head-word, headers, written-rows, count-width}
+use Rattle.frames.specs.Frame.{in-range, unused, head-rows}
 use Rattle.frames.specs.declared.Link.{Link}
 use Rattle.frames.specs.declared.Settings.{Settings}
 
@@ -28,12 +28,17 @@ unfolding headers
 headers-laid l c r z w d e f h q t u =
     rw (u, t, q) (two-parts d (octets 6 (head-word l c r)) (octets 2 z) 6 2 (length-octets 6 (head-word l c r)) (length-octets 2 z) h)
 
--- a header that is not refused has room
-pub head-room : (s : Settings) (c p : ℕ) (d : List ℕ) → first (head-rows s c p d) ≡ 0 → 8 ≤ length d
-unfolding head-rows
-head-room s c p d e = ltb-false (length d) 8 (none-holds 1 _ _ (none-holds 0 _ _ e .1) .0)
+-- headers that are not refused have room
+pub written-room : (l : Link) (settled : Bool) (c : ℕ) (pointed : Bool) (d : List ℕ) → first (written-rows l settled c pointed d) ≡ 0 → 8 ≤ length d
+unfolding written-rows
+written-room l settled c pointed d e = ltb-false (length d) 8 (none-holds 1 _ _ (none-holds 0 _ _ e .1) .0)
 
-pub none-refused : (s : Settings) (c p : ℕ) (d : List ℕ) → in-range s ≡ true → c < 2 ^ count-width (s .link) → p < 2 ^ 11 → 8 ≤ length d
-    → first (head-rows s c p d) ≡ 0
-unfolding first head-rows
-none-refused s c p d e h k r = rw (e, lt-ltb c (2 ^ count-width (s .link)) h, lt-ltb p (2 ^ 11) k, le-ltb (length d) 8 r) refl
+pub written-taken : (l : Link) (c : ℕ) {settled fits unused : Bool} (d : List ℕ) → settled ≡ true → c < 2 ^ count-width l → fits ≡ true → unused ≡ false
+    → 8 ≤ length d → first (written-rows l settled c (and fits (not unused)) d) ≡ 0
+unfolding first written-rows
+written-taken l c d e h k u r = rw (e, lt-ltb c (2 ^ count-width l) h, k, u, le-ltb (length d) 8 r) refl
+
+pub none-refused : (s : Settings) (c p : ℕ) (d : List ℕ) → in-range s ≡ true → c < 2 ^ count-width (s .link) → p < 2 ^ 11 → unused s p ≡ false
+    → 8 ≤ length d → first (head-rows s c p d) ≡ 0
+unfolding head-rows
+none-refused s c p d e h k u r = written-taken (s .link) c d e h (lt-ltb p (2 ^ 11) k) u r

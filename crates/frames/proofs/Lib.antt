@@ -5,5 +5,6 @@ pub mod Heads
 pub mod ReadBack
 pub mod Rows
 pub mod Settled
+pub mod Theorems
 pub mod Wheel
 pub mod Passes

@@ -3,12 +3,12 @@
 use mathlib.Core.Path.{refl}
 use Rattle.octets.specs.Basics.{number, number-from, field, first}
 use Rattle.frames.specs.Link.{primary, zone-head, header-rows}
-use Rattle.frames.specs.Frame.{frame-length, frame-rows}
+use Rattle.frames.specs.Frame.{frame-length, frame-rows, unused}
 use Rattle.frames.specs.BitFrame.{bit-frame-length, bit-frame-rows, bit-unused}
 use Rattle.frames.specs.Passes.{Pass5, Pass13}
 
 pub pass-5 : Pass5
-unfolding first frame-rows header-rows frame-length primary zone-head number number-from field
+unfolding first frame-rows unused header-rows frame-length primary zone-head number number-from field
 pass-5 = record { nine-entered = refl; ten-refused = refl }
 
 pub pass-13 : Pass13

@@ -2,23 +2,25 @@
 -- Assumes nothing.
 use mathlib.Core.Path.{_≡_, sym, ap, _∙_}
 use mathlib.Core.List.{List, _++_, append-assoc}
-use mathlib.Core.Bool.{Bool, true}
+use mathlib.Core.Bool.{Bool, true, false}
 use Prim.Native.Nat.{ℕ, _+_, _-_, _%_, _^_, _≤_, _<_}
 use native.Mathlib.Nat.{mod-eq-of-lt, mod-one}
 use native.Mathlib.Omega.{arith}
 use lib.Dec.{lit<}
 use lib.ListN.{length, take, drop, length-append, length-drop, take-append-drop}
 use lib.Seq.{take-at, drop-at, take-add, take-all}
-use Rattle.octets.specs.Basics.{field, placed, number, octets, read, write, first}
+use Rattle.octets.specs.Basics.{AllOctets, field, placed, number, octets, read, write, first}
+use Rattle.octets.specs.declared.Place.{Place}
 use Rattle.octets.proofs.Fields.{placed-read, placed-below, placed-lt, placed-within, field-lt, agree-on, foot-read, foot-above, foot-lt, foot-only}
-use Rattle.octets.proofs.Numbers.{Octets, number-octets, octets-again, run-lt}
+use Rattle.octets.proofs.Numbers.{number-octets, octets-again, run-lt}
 use Rattle.octets.proofs.Written.{length-octets}
 use Rattle.frames.specs.Link.{head-word, headers, primary, zone-head, version-place, spacecraft-place, channel-place, count-place, replay-place, spare-place, count-width}
-use Rattle.frames.specs.Frame.{in-range, frame-length, frame-rows, zone-of, version, spacecraft, channel, count, replay, spare, zone-spare, zone-spare-place, pointer, pointer-place, pointer-word, head}
+use Rattle.frames.specs.Frame.{in-range, frame-length, frame-rows, zone-of, count, replay, zone-spare-place, pointer, pointer-place, pointer-word, head}
+use Rattle.frames.specs.Statements.{HeadersBack}
 use Rattle.frames.specs.declared.Link.{Link}
 use Rattle.frames.specs.declared.Settings.{Settings}
 use Rattle.frames.proofs.Rows.{SoundHeader, sound-frame}
-use Rattle.frames.proofs.Settled.{Linked, Settled, settled}
+use Rattle.frames.proofs.Settled.{Linked, settled}
 use Rattle.frames.proofs.Wheel.{count-lt}
 
 -- the word of the frame's own header, as its fields are put in one after the other
@@ -130,6 +132,37 @@ module _ (l : Link) (c r z : ℕ) (f : List ℕ) (headed : take 8 f ≡ headers 
       ∙ ap number (take-at (octets 2 z) (drop 8 f) 2 (length-octets 2 z))
       ∙ number-octets 2 z h
 
+-- headers that were written are read back; for any width of the pointer
+pub headers-back : (l : Link) (width c p : ℕ) (f : List ℕ) → Linked l → width ≤ 16 → c < 2 ^ count-width l → p < 2 ^ width
+    → take 8 f ≡ headers l c 0 (placed 0 0 width p)
+    → HeadersBack l (record { below = width; width = 16 - width }) (record { below = 0; width = width }) c p f
+headers-back l width c p f bounds narrow wheel short headed =
+    let word : primary l f ≡ head-word l c 0 = primary-written l c 0 (placed 0 0 width p) f headed in
+    let zone : zone-head l f ≡ placed 0 0 width p =
+    zone-head-written l c 0 (placed 0 0 width p) f headed (foot-lt width p (omega arith) 16 narrow) in
+    record {
+      version-back = ap (read version-place) word ∙ version-written l c 0;
+      spacecraft-back = ap (read spacecraft-place) word ∙ spacecraft-written l c 0 (bounds .spacecraft-most);
+      channel-back = ap (read channel-place) word ∙ channel-written l c 0 (bounds .channel-most);
+      count-back = ap (read count-place) word ∙ count-written l c 0 wheel;
+      replay-back = ap (read replay-place) word ∙ replay-written l c 0 (omega arith);
+      spare-back = ap (read spare-place) word ∙ spare-written l c 0;
+      zone-spare-back = ap (λ (z : ℕ). field z width (16 - width)) zone ∙ foot-above width p (omega arith) width (16 - width) (omega arith);
+      pointer-back = ap (λ (z : ℕ). field z 0 width) zone ∙ foot-read width p (omega arith) short;
+    }
+
+-- so no row refuses them, where the pointer is one that is used
+pub back-sound : {l : Link} {spare-at pointer-at : Place} {c p : ℕ} {f : List ℕ} (unused : ℕ → Bool) → HeadersBack l spare-at pointer-at c p f
+    → unused p ≡ false → SoundHeader l (primary l f) (read spare-at (zone-head l f)) (unused (read pointer-at (zone-head l f)))
+back-sound unused h used = record {
+  version-right = h .version-back;
+  spacecraft-right = h .spacecraft-back;
+  channel-right = h .channel-back;
+  spare-clear = h .spare-back;
+  zone-spare-clear = h .zone-spare-back;
+  pointer-used = ap unused (h .pointer-back) ∙ used;
+}
+
 -- ---- the other way round
 
 -- a word of six octets whose fields are those of a header is that header's word
@@ -149,16 +182,16 @@ word-by-fields l w h v sc ch sp scl chl =
     let version : w % 2 ^ 48 ≡ b % 2 ^ 48 = agree-on w b 46 2 craft (v ∙ sym (version-written l c r)) in
     sym (mod-eq-of-lt h) ∙ version ∙ mod-eq-of-lt (head-word-lt l c r)
 
-pub primary-lt : (l : Link) (f : List ℕ) → Octets f → 6 ≤ length f → primary l f < 2 ^ 48
+pub primary-lt : (l : Link) (f : List ℕ) → AllOctets f → 6 ≤ length f → primary l f < 2 ^ 48
 unfolding primary
 primary-lt l f o h = run-lt f 0 6 o (omega arith)
 
-pub zone-head-lt : (l : Link) (f : List ℕ) → Octets f → 8 ≤ length f → zone-head l f < 2 ^ 16
+pub zone-head-lt : (l : Link) (f : List ℕ) → AllOctets f → 8 ≤ length f → zone-head l f < 2 ^ 16
 unfolding zone-head
 zone-head-lt l f o h = run-lt f 6 2 o (omega arith)
 
 -- the headers of a frame, and what follows them
-pub frame-parts : (l : Link) (f : List ℕ) → Octets f → 8 ≤ length f
+pub frame-parts : (l : Link) (f : List ℕ) → AllOctets f → 8 ≤ length f
     → f ≡ (octets 6 (primary l f) ++ octets 2 (zone-head l f)) ++ drop 8 f
 unfolding primary zone-head
 frame-parts l f o h =
@@ -168,7 +201,7 @@ frame-parts l f o h =
     sym (take-append-drop 8 f) ∙ ap (λ (g : List ℕ). g ++ drop 8 f) both
 
 -- a frame whose headers are right is these, written again from what is read, and what follows them; for any width of the pointer
-pub headers-again : (l : Link) (f : List ℕ) (width spare : ℕ) (unused : Bool) → Linked l → Octets f → 8 ≤ length f → width ≤ 16
+pub headers-again : (l : Link) (f : List ℕ) (width spare : ℕ) (unused : Bool) → Linked l → AllOctets f → 8 ≤ length f → width ≤ 16
     → SoundHeader l (primary l f) spare unused → field (zone-head l f) width (16 - width) ≡ 0
     → f ≡ headers l (read count-place (primary l f)) (read replay-place (primary l f)) (placed 0 0 width (field (zone-head l f) 0 width)) ++ drop 8 f
 unfolding headers
@@ -180,8 +213,19 @@ headers-again l f width spare unused bounds o room narrow h clear =
     foot-only 16 width (zone-head l f) (omega arith) narrow (zone-head-lt l f o room) clear in
     frame-parts l f o room ∙ cc (w, z)
 
+-- ---- packet channels
+
+pub length-head : (s : Settings) (c p : ℕ) → length (head s c p) ≡ 8
+unfolding head
+length-head s c p = length-headers (s .link) c 0 (pointer-word p)
+
+pub head-back : (s : Settings) (c p : ℕ) (f : List ℕ) → in-range s ≡ true → c < 2 ^ count-width (s .link) → p < 2 ^ 11
+    → take 8 f ≡ head s c p → HeadersBack (s .link) zone-spare-place pointer-place c p f
+unfolding head
+head-back s c p f ok wheel short headed = headers-back (s .link) 11 c p f (settled s ok .on-link) (omega arith) wheel short headed
+
 -- a frame that is not refused is its headers, written again from what is read, and its zone
-pub frame-again : (s : Settings) (f : List ℕ) → in-range s ≡ true → Octets f → first (frame-rows s f) ≡ 0
+pub frame-again : (s : Settings) (f : List ℕ) → in-range s ≡ true → AllOctets f → first (frame-rows s f) ≡ 0
     → f ≡ headers (s .link) (count s f) (replay s f) (pointer-word (pointer s f)) ++ zone-of s f
 unfolding zone-of frame-length
 frame-again s f e o r =
@@ -190,43 +234,3 @@ frame-again s f e o r =
     let all : take (s .zone) (drop 8 f) ≡ drop 8 f = take-all (s .zone) (drop 8 f) (rw length-drop (omega arith)) in
     headers-again (s .link) f 11 _ _ (settled s e .on-link) o (omega arith) (omega arith) (sound .header) (sound .header .zone-spare-clear)
     ∙ ap (λ (z : List ℕ). headers (s .link) (count s f) (replay s f) (pointer-word (pointer s f)) ++ z) (sym all)
-
--- ---- a frame of a packet channel that begins with its written head is read back
-
-pub length-head : (s : Settings) (c p : ℕ) → length (head s c p) ≡ 8
-unfolding head
-length-head s c p = length-headers (s .link) c 0 (pointer-word p)
-
-module _ (s : Settings) (range : Settled s) (c p : ℕ) (wheel : c < 2 ^ count-width (s .link)) (short : p < 2 ^ 11) (f : List ℕ) (headed : take 8 f ≡ head s c p) where
-  primary-read : primary (s .link) f ≡ head-word (s .link) c 0
-  unfolding head
-  primary-read = primary-written (s .link) c 0 (pointer-word p) f headed
-
-  zone-head-read : zone-head (s .link) f ≡ pointer-word p
-  unfolding head
-  zone-head-read =
-      zone-head-written (s .link) c 0 (pointer-word p) f headed (foot-lt 11 p (omega arith) 16 (omega arith))
-
-  pub version-read : version s f ≡ 1
-  version-read = ap (read version-place) primary-read ∙ version-written (s .link) c 0
-
-  pub spacecraft-read : spacecraft s f ≡ s .link .spacecraft
-  spacecraft-read = ap (read spacecraft-place) primary-read ∙ spacecraft-written (s .link) c 0 (range .on-link .spacecraft-most)
-
-  pub channel-read : channel s f ≡ s .link .channel
-  channel-read = ap (read channel-place) primary-read ∙ channel-written (s .link) c 0 (range .on-link .channel-most)
-
-  pub count-read : count s f ≡ c
-  count-read = ap (read count-place) primary-read ∙ count-written (s .link) c 0 wheel
-
-  pub replay-read : replay s f ≡ 0
-  replay-read = ap (read replay-place) primary-read ∙ replay-written (s .link) c 0 (omega arith)
-
-  pub spare-read : spare s f ≡ 0
-  spare-read = ap (read spare-place) primary-read ∙ spare-written (s .link) c 0
-
-  pub zone-spare-read : zone-spare s f ≡ 0
-  zone-spare-read = ap (read zone-spare-place) zone-head-read ∙ foot-above 11 p (omega arith) 11 5 (omega arith)
-
-  pub pointer-read : pointer s f ≡ p
-  pointer-read = ap (read pointer-place) zone-head-read ∙ foot-read 11 p (omega arith) short

@@ -1,18 +1,24 @@
 -- What a frame that is not refused is like, row by row.
 -- Assumes nothing.
-use mathlib.Core.Path.{_≡_, refl, _∙_}
-use mathlib.Core.List.{List}
-use mathlib.Core.Bool.{Bool, false, not}
-use Prim.Native.Nat.{ℕ, _+_}
+use mathlib.Core.Path.{_≡_, refl}
+use mathlib.Core.List.{List, _∷_}
+use mathlib.Core.Bool.{Bool, true, false, not}
+use Prim.Native.Nat.{ℕ}
 use lib.ListN.{length}
-use lib.Dec.{leb}
 use borrow.Author.Tests.{eq-eqb, eqb-true, not-false}
-use Rattle.octets.specs.Basics.{and, read, first}
+use Rattle.octets.specs.Basics.{pick, read, Row, row, first}
 use Rattle.octets.proofs.Choices.{and-true, none-holds}
 use Rattle.frames.specs.Link.{primary, header-rows, version-place, spacecraft-place, channel-place, spare-place}
-use Rattle.frames.specs.Frame.{frame-length, frame-rows, zone-spare, pointer}
+use Rattle.frames.specs.Frame.{frame-length, frame-rows, zone-spare, pointer, unused}
 use Rattle.frames.specs.declared.Link.{Link}
 use Rattle.frames.specs.declared.Settings.{Settings}
+
+-- where the row of the settings stands above, it need not stand again
+pub settled-once : (settled : Bool) (rows : List Row) (between : ℕ → ℕ)
+    → pick (not settled) 1 (between (first (row 1 (not settled) ∷ rows))) ≡ pick (not settled) 1 (between (first rows))
+unfolding first
+settled-once true rows between = refl
+settled-once false rows between = refl
 
 pub record SoundHeader (l : Link) (head zone-spare : ℕ) (unused : Bool) : Type 0 where
   pub version-right : read version-place head ≡ 1
@@ -49,7 +55,7 @@ header-taken l head spare unused h =
 
 pub record SoundFrame (s : Settings) (f : List ℕ) : Type 0 where
   pub length-right : length f ≡ frame-length s
-  pub header : SoundHeader (s .link) (primary (s .link) f) (zone-spare s f) (and (leb (s .zone) (pointer s f)) (leb (pointer s f) 2045))
+  pub header : SoundHeader (s .link) (primary (s .link) f) (zone-spare s f) (unused s (pointer s f))
 
 pub sound-frame : (s : Settings) (f : List ℕ) → first (frame-rows s f) ≡ 0 → SoundFrame s f
 unfolding frame-rows

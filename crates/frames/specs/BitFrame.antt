@@ -1,12 +1,12 @@
 -- The frame of a bitstream channel: its settings, its header, its zone, and what it is refused for.
 use Prim.Native.Nat.{ℕ, _+_, _-_, _*_, _^_}
-use mathlib.Core.List.{List, [], _∷_}
+use mathlib.Core.List.{List, _∷_}
 use mathlib.Core.Bool.{Bool, not}
 use lib.ListN.{length, take, drop}
 use lib.Dec.{leb, ltb, eqb}
 use Rattle.octets.specs.Basics.{and, read, write, Row, row, first}
 use Rattle.octets.specs.declared.Place.{Place}
-use Rattle.frames.specs.Link.{link-in-range, zone-at, primary, zone-head, count-place, replay-place, header-rows, headers, count-width}
+use Rattle.frames.specs.Link.{link-in-range, zone-at, primary, zone-head, count-place, replay-place, header-rows, written-rows, headers}
 use Rattle.frames.specs.Frame.{heading-of}
 use Rattle.frames.specs.declared.bits.BitSettings.{BitSettings}
 use Rattle.frames.specs.declared.Heading.{Heading}
@@ -64,9 +64,13 @@ bit-frame-rows s f =
     row 3 (not (eqb (length f) (bit-frame-length s)))
     ∷ header-rows (s .link) (primary (s .link) f) (bit-spare s f) (bit-unused s (bit-pointer s f))
 
--- what a header says, where the frame is not refused; else the refusal alone
+-- the same of a header that is read, with the settings before all else
+unfoldable pub bit-heading-rows : BitSettings → List ℕ → List Row
+bit-heading-rows s f = row 1 (not (bits-in-range s)) ∷ bit-frame-rows s f
+
+-- what a header says, where it is not refused; else the refusal alone
 unfoldable pub bit-heading : BitSettings → List ℕ → Heading
-bit-heading s f = heading-of (first (bit-frame-rows s f)) (bit-count s f) (bit-replay s f) (bit-pointer s f)
+bit-heading s f = heading-of (first (bit-heading-rows s f)) (bit-count s f) (bit-replay s f) (bit-pointer s f)
 
 -- the zone's header with a pointer
 abbrev pub bit-pointer-word : ℕ → ℕ
@@ -76,9 +80,6 @@ bit-pointer-word p = write bit-pointer-place p 0
 unfoldable pub bit-head : BitSettings → ℕ → ℕ → List ℕ
 bit-head s c p = headers (s .link) c 0 (bit-pointer-word p)
 
--- what a header to be written is refused for
+-- what a header to be written is refused for: its pointer fits, and reading takes it
 unfoldable pub bit-head-rows : BitSettings → ℕ → ℕ → List ℕ → List Row
-bit-head-rows s c p buffer =
-    row 1 (not (and (bits-in-range s) (and (ltb c (2 ^ count-width (s .link))) (ltb p (2 ^ 14)))))
-    ∷ row 2 (ltb (length buffer) (zone-at (s .link)))
-    ∷ []
+bit-head-rows s c p buffer = written-rows (s .link) (bits-in-range s) c (and (ltb p (2 ^ 14)) (not (bit-unused s p))) buffer

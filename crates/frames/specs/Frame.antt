@@ -1,12 +1,12 @@
 -- The frame of a packet channel: its settings, its header, its zone, and what it is refused for.
 use Prim.Native.Nat.{ℕ, _+_, _^_}
-use mathlib.Core.List.{List, [], _∷_}
+use mathlib.Core.List.{List, _∷_}
 use mathlib.Core.Bool.{Bool, not}
 use lib.ListN.{length, take, drop}
 use lib.Dec.{leb, ltb, eqb}
 use Rattle.octets.specs.Basics.{pick, and, read, write, Row, row, first}
 use Rattle.octets.specs.declared.Place.{Place}
-use Rattle.frames.specs.Link.{link-in-range, zone-at, primary, zone-head, version-place, spacecraft-place, channel-place, count-place, replay-place, spare-place, header-rows, headers, count-width}
+use Rattle.frames.specs.Link.{link-in-range, zone-at, primary, zone-head, version-place, spacecraft-place, channel-place, count-place, replay-place, spare-place, header-rows, written-rows, headers}
 use Rattle.frames.specs.declared.Link.{Link}
 use Rattle.frames.specs.declared.Settings.{Settings}
 use Rattle.frames.specs.declared.Heading.{Heading}
@@ -67,13 +67,21 @@ zone-spare s f = read zone-spare-place (zone-head (s .link) f)
 abbrev pub pointer : Settings → List ℕ → ℕ
 pointer s f = read pointer-place (zone-head (s .link) f)
 
+-- a pointer that is not used: from Z to 2,045
+unfoldable pub unused : Settings → ℕ → Bool
+unused s p = and (leb (s .zone) p) (leb p 2045)
+
 -- what a frame to be read is refused for, in order
 unfoldable pub frame-rows : Settings → List ℕ → List Row
 frame-rows s f =
     row 3 (not (eqb (length f) (frame-length s)))
-    ∷ header-rows (s .link) (primary (s .link) f) (zone-spare s f) (and (leb (s .zone) (pointer s f)) (leb (pointer s f) 2045))
+    ∷ header-rows (s .link) (primary (s .link) f) (zone-spare s f) (unused s (pointer s f))
 
--- what a header says, where the frame is not refused; else the refusal alone
+-- the same of a header that is read, with the settings before all else
+unfoldable pub heading-rows : Settings → List ℕ → List Row
+heading-rows s f = row 1 (not (in-range s)) ∷ frame-rows s f
+
+-- what a header says, where it is not refused; else the refusal alone
 unfoldable pub heading-of : ℕ → ℕ → ℕ → ℕ → Heading
 heading-of refusal c r p =
     pick (eqb refusal 0)
@@ -81,7 +89,7 @@ heading-of refusal c r p =
     (record { refusal = refusal; count = 0; replay = 0; pointer = 0 })
 
 unfoldable pub heading : Settings → List ℕ → Heading
-heading s f = heading-of (first (frame-rows s f)) (count s f) (replay s f) (pointer s f)
+heading s f = heading-of (first (heading-rows s f)) (count s f) (replay s f) (pointer s f)
 
 -- the zone's header with a pointer
 abbrev pub pointer-word : ℕ → ℕ
@@ -91,9 +99,6 @@ pointer-word p = write pointer-place p 0
 unfoldable pub head : Settings → ℕ → ℕ → List ℕ
 head s c p = headers (s .link) c 0 (pointer-word p)
 
--- what a header to be written is refused for
+-- what a header to be written is refused for: its pointer fits, and reading takes it
 unfoldable pub head-rows : Settings → ℕ → ℕ → List ℕ → List Row
-head-rows s c p buffer =
-    row 1 (not (and (in-range s) (and (ltb c (2 ^ count-width (s .link))) (ltb p (2 ^ 11)))))
-    ∷ row 2 (ltb (length buffer) (zone-at (s .link)))
-    ∷ []
+head-rows s c p buffer = written-rows (s .link) (in-range s) c (and (ltb p (2 ^ 11)) (not (unused s p))) buffer

@@ -52,6 +52,17 @@ header-rows l head zone-spare unused =
     ∷ row 7 unused
     ∷ []
 
+-- the width of the count
+unfoldable pub count-width : Link → ℕ
+count-width l = 24
+
+-- what headers to be written are refused for: the settings, the count or the pointer; no room
+unfoldable pub written-rows : Link → Bool → ℕ → Bool → List ℕ → List Row
+written-rows l settled c pointed buffer =
+    row 1 (not (and settled (and (ltb c (2 ^ count-width l)) pointed)))
+    ∷ row 2 (ltb (length buffer) (zone-at l))
+    ∷ []
+
 -- the frame's own header with this count and replay flag, as a number
 unfoldable pub head-word : Link → ℕ → ℕ → ℕ
 head-word l c r =
@@ -61,10 +72,6 @@ head-word l c r =
 -- both headers as they are written: the frame's own, and the zone's with this number
 unfoldable pub headers : Link → ℕ → ℕ → ℕ → List ℕ
 headers l c r z = octets 6 (head-word l c r) ++ octets 2 z
-
--- the width of the count
-unfoldable pub count-width : Link → ℕ
-count-width l = 24
 
 -- the wheel, over its width: the count after c, and how many frames are missing between `last` and c, for any two numbers
 unfoldable pub next-count : ℕ → ℕ → ℕ

@@ -1,14 +1,13 @@
 // The frames of a bitstream channel: its settings, and a frame's header read and written.
 ghost use mathlib.Core.Path.{_≡_};
+ghost use Prim.Native.Nat.{_^_, _<_};
 ghost use lib.Dec.{ltb, eqb};
 ghost use Rattle.octets.specs.Basics.{pick, first, over};
 ghost use Rattle.frames.specs.Frame.{frame-length};
-ghost use Rattle.frames.specs.BitFrame.{bits-in-range, bit-frame-length, bit-heading, bit-head, bit-head-rows};
+ghost use Rattle.frames.specs.BitFrame.{bits-in-range, bit-frame-length, bit-unused, bit-heading, bit-head, bit-head-rows};
 use super::Heading;
 use super::Link;
 use super::Settings;
-use super::WHEEL;
-use super::ZONE_AT;
 use octets::Place;
 
 // The settings of one bitstream channel: W, and the octet that fills what no bit takes.
@@ -66,6 +65,15 @@ pub fn is_short(s: BitSettings, len: usize) -> bool
     super::is_short(as_long(s), len)
 }
 
+// Whether a pointer is one that is not used: from 8W-1, by a quotient that stays within the word for every W, to the last before
+// those that are no place.
+fn unused(s: BitSettings, pointer: u64) -> bool
+    requires { ⌜ pointer < 2 ^ 16 ⌝ }
+    ensures { λ r. ⌜ r ≡ bit-unused s pointer ⌝ }
+{
+    (s.width as u64 <= (pointer + 1) / 8) & (pointer <= 16381)
+}
+
 // What the header of a frame says, or what the frame is refused for.
 pub fn read_head(s: BitSettings, frame: &[u8]) -> Heading
     ensures { λ r. ⌜ r ≡ bit-heading s (now (frame .entry)) ⌝ }
@@ -73,10 +81,9 @@ pub fn read_head(s: BitSettings, frame: &[u8]) -> Heading
     let head = octets::number6(frame, 0);
     let zone = octets::number2(frame, 6) as u64;
     let pointer = octets::field(zone, POINTER);
-    // 8W-1 <= pointer, by a quotient that stays within the word for every W
-    let unused = (s.width as u64 <= (pointer + 1) / 8) & (pointer <= 16381);
-    let other = super::header_refusal(s.link, head, octets::field(zone, ZONE_SPARE), unused);
-    let refusal = octets::refused(!has_length(s, frame.len()), 3, other);
+    let spare = octets::field(zone, ZONE_SPARE);
+    let below = super::header_refusal(s.link, head, spare, unused(s, pointer));
+    let refusal = super::frame_refusal(in_range(s), has_length(s, frame.len()), below);
     super::heading_of(refusal, head, pointer)
 }
 
@@ -85,16 +92,7 @@ pub fn write_head(s: BitSettings, count: u32, pointer: u16, buf: &mut [u8]) -> u
     ensures { λ r. ⌜ r ≡ first (bit-head-rows s count pointer (now (buf .entry))) ⌝ }
     ensures { λ r. ⌜ now (buf .exit) ≡ pick (eqb r 0) (over (now (buf .entry)) 0 (bit-head s count pointer)) (now (buf .entry)) ⌝ }
 {
-    let room = octets::refused(buf.len() < ZONE_AT, 2, 0);
-    let settled = in_range(s) & ((count < WHEEL) & (pointer < 16384));
-    let refusal = octets::refused(!settled, 1, room);
-    if refusal == 0 {
-        super::put_headers(
-            s.link,
-            count,
-            octets::placed(0, POINTER, pointer as u64),
-            buf,
-        );
-    }
-    refusal
+    let pointed = (pointer < 16384) & !unused(s, pointer as u64);
+    let zone = octets::placed(0, POINTER, pointer as u64);
+    super::write_headers(s.link, in_range(s), count, pointed, zone, buf)
 }

@@ -1,11 +1,11 @@
 // Frames: the settings of a channel, a frame's header read and written, and the wheel of its count.
 ghost use mathlib.Core.Path.{_≡_};
-ghost use Prim.Native.Nat.{_^_, _≤_, _<_};
-ghost use lib.ListN.{length};
+ghost use mathlib.Core.Bool.{not};
+ghost use Prim.Native.Nat.{_^_, _<_};
 ghost use lib.Dec.{ltb, eqb};
 ghost use Rattle.octets.specs.Basics.{pick, and, first, over, read};
-ghost use Rattle.frames.specs.Link.{link-in-range, count-place, replay-place, header-rows, head-word, headers, missing, next-count};
-ghost use Rattle.frames.specs.Frame.{in-range, frame-length, heading-of, heading, pointer-word, head, head-rows};
+ghost use Rattle.frames.specs.Link.{link-in-range, count-place, replay-place, header-rows, written-rows, head-word, headers, missing, next-count};
+ghost use Rattle.frames.specs.Frame.{in-range, frame-length, unused, heading-of, heading, head, head-rows};
 use octets::Place;
 
 pub mod bits;
@@ -110,6 +110,13 @@ pub fn is_short(s: Settings, len: usize) -> bool
     len - ZONE_AT < s.zone
 }
 
+// Whether a pointer is one that is not used: from Z to the last before those that are no offset.
+fn unused(s: Settings, pointer: u64) -> bool
+    ensures { λ r. ⌜ r ≡ unused s pointer ⌝ }
+{
+    (s.zone as u64 <= pointer) & (pointer <= 2045)
+}
+
 // What a frame of the right length is refused for, by its own header, the zone's spare bits and a pointer that is not used.
 pub(crate) fn header_refusal(l: Link, head: u64, spare: u64, unused: bool) -> u8
     ensures { λ r. ⌜ r ≡ first (header-rows l head spare unused) ⌝ }
@@ -123,6 +130,13 @@ pub(crate) fn header_refusal(l: Link, head: u64, spare: u64, unused: bool) -> u8
         4,
         octets::refused(!channel, 5, below),
     )
+}
+
+// The rows above those: settings out of range, and a frame of another length.
+pub(crate) fn frame_refusal(settled: bool, long: bool, below: u8) -> u8
+    ensures { λ r. ⌜ r ≡ pick (not settled) 1 (pick (not long) 3 below) ⌝ }
+{
+    octets::refused(!settled, 1, octets::refused(!long, 3, below))
 }
 
 pub(crate) fn heading_of(refusal: u8, head: u64, pointer: u64) -> Heading
@@ -152,9 +166,9 @@ pub fn read_head(s: Settings, frame: &[u8]) -> Heading
     let head = octets::number6(frame, 0);
     let zone = octets::number2(frame, 6) as u64;
     let pointer = octets::field(zone, POINTER);
-    let unused = (s.zone as u64 <= pointer) & (pointer <= 2045);
-    let other = header_refusal(s.link, head, octets::field(zone, ZONE_SPARE), unused);
-    let refusal = octets::refused(!has_length(s, frame.len()), 3, other);
+    let spare = octets::field(zone, ZONE_SPARE);
+    let below = header_refusal(s.link, head, spare, unused(s, pointer));
+    let refusal = frame_refusal(in_range(s), has_length(s, frame.len()), below);
     heading_of(refusal, head, pointer)
 }
 
@@ -177,13 +191,25 @@ fn head_word(l: Link, count: u32, replay: u8) -> u64
     octets::placed(craft, VERSION, 1)
 }
 
-// Both headers, laid over the front of buf.
-pub(crate) fn put_headers(l: Link, count: u32, zone: u64, buf: &mut [u8])
-    requires { ⌜ 8 ≤ length (now buf) ⌝ }
-    ensures { λ _. ⌜ now (buf .exit) ≡ over (now (buf .entry)) 0 (headers l count 0 zone) ⌝ }
+// Writes both headers, the zone's as a number, at the front of buf; nothing, and the row's number, where they are refused.
+pub(crate) fn write_headers(
+    l: Link,
+    settled: bool,
+    count: u32,
+    pointed: bool,
+    zone: u64,
+    buf: &mut [u8],
+) -> u8
+    ensures { λ r. ⌜ r ≡ first (written-rows l settled count pointed (now (buf .entry))) ⌝ }
+    ensures { λ r. ⌜ now (buf .exit) ≡ pick (eqb r 0) (over (now (buf .entry)) 0 (headers l count 0 zone)) (now (buf .entry)) ⌝ }
 {
-    octets::put(buf, 0, 6, head_word(l, count, 0));
-    octets::put(buf, 6, 2, zone);
+    let room = octets::refused(buf.len() < ZONE_AT, 2, 0);
+    let refusal = octets::refused(!(settled & ((count < WHEEL) & pointed)), 1, room);
+    if refusal == 0 {
+        octets::put(buf, 0, 6, head_word(l, count, 0));
+        octets::put(buf, 6, 2, zone);
+    }
+    refusal
 }
 
 // Writes both headers of the frame with this count and pointer at the front of buf; nothing, and the row's number, where it is refused.
@@ -191,16 +217,7 @@ pub fn write_head(s: Settings, count: u32, pointer: u16, buf: &mut [u8]) -> u8
     ensures { λ r. ⌜ r ≡ first (head-rows s count pointer (now (buf .entry))) ⌝ }
     ensures { λ r. ⌜ now (buf .exit) ≡ pick (eqb r 0) (over (now (buf .entry)) 0 (head s count pointer)) (now (buf .entry)) ⌝ }
 {
-    let room = octets::refused(buf.len() < ZONE_AT, 2, 0);
-    let settled = in_range(s) & ((count < WHEEL) & (pointer < 2048));
-    let refusal = octets::refused(!settled, 1, room);
-    if refusal == 0 {
-        put_headers(
-            s.link,
-            count,
-            octets::placed(0, POINTER, pointer as u64),
-            buf,
-        );
-    }
-    refusal
+    let pointed = (pointer < 2048) & !unused(s, pointer as u64);
+    let zone = octets::placed(0, POINTER, pointer as u64);
+    write_headers(s.link, in_range(s), count, pointed, zone, buf)
 }

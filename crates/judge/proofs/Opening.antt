@@ -9,7 +9,7 @@ use lib.Dec.{eqb}
 use borrow.Author.Tests.{eqb-true, ltb-true, lt-ltb}
 use Rattle.octets.specs.Basics.{first}
 use Rattle.octets.proofs.Tests.{test}
-use Rattle.frames.specs.Frame.{frame-rows, count, heading}
+use Rattle.frames.specs.Frame.{in-range, frame-rows, count, heading}
 use Rattle.frames.specs.Link.{primary, count-width}
 use Rattle.frames.specs.declared.Heading.{Heading}
 use Rattle.frames.specs.declared.Settings.{Settings}
@@ -45,11 +45,11 @@ module _ (s : Settings) (store f : List ℕ) where
   well-opened = rw (says-as-opened, enters-as-opened) refl
 
   -- so a first frame is tried as any other; where it is refused, the record does not matter
-  pub opened-tried : try-frame s 0 (stands-for store (ready s (heading s f .count))) store f ≡ try-frame s 0 opened store f
+  pub opened-tried : in-range s ≡ true → try-frame s 0 (stands-for store (ready s (heading s f .count))) store f ≡ try-frame s 0 opened store f
   unfolding try-frame
-  opened-tried =
+  opened-tried ok =
       test (eqb (first (frame-rows s f)) 0)
       (λ t.
-      let its-heading = accepted-heading s f (eqb-true (first (frame-rows s f)) 0 t) in
+      let its-heading = accepted-heading s f ok (eqb-true (first (frame-rows s f)) 0 t) in
       ap (λ (h : Heading). try-frame s 0 (stands-for store (ready s (h .count))) store f) its-heading ∙ well-opened)
       (λ t. rw (refused-faulty s (stands-for store (ready s (heading s f .count))) f t, refused-faulty s opened f t) refl)

@@ -15,6 +15,7 @@ use Rattle.octets.proofs.Written.{length-run, laid-within, part-within}
 use Rattle.frames.specs.Link.{zone-at, count-width, next-count}
 use Rattle.frames.specs.Frame.{frame-length, head, head-rows, no-start, idle-zone}
 use Rattle.frames.specs.declared.Settings.{Settings}
+use Rattle.frames.proofs.Framed.{Used}
 use Rattle.frames.proofs.Heads.{none-refused}
 use Rattle.multiplexer.specs.Multiplex.{filled-frame, filled-mux, start-now, put, idle-frame}
 use Rattle.multiplexer.specs.Laying.{Fills, LaidOver, Counted, PacketLaid}
@@ -25,12 +26,13 @@ use Rattle.multiplexer.proofs.Rows.{Accepted}
 
 -- a call that is not refused may lay what stays within the zone
 pub accepted-fills : {s : Settings} {m : Mux} {room : ℕ} (start n : ℕ) (frame : List ℕ) → Accepted s m room → length frame ≡ room
-    → start < 2 ^ 11 → m .filled + n ≤ s .zone → Fills s m start n frame
-accepted-fills start n frame w e p h = record {
+    → start < 2 ^ 11 → Used s start → m .filled + n ≤ s .zone → Fills s m start n frame
+accepted-fills start n frame w e p u h = record {
   settled = w .lent .in-ranges;
   room = omega (arith, w .lent .enough);
   counted = w .passes .wheel;
   pointed = p;
+  used = u;
   inside = h;
 }
 
@@ -50,7 +52,7 @@ module _ {s : Settings} {m : Mux} {start n : ℕ} {d : List ℕ} (taken : ℕ) w
       → Counted s m start n taken (record { count = next-count (count-width (s .link)) (m .count); filled = 0; first = no-start; taken = taken }) d f
   unfolding filled-mux filled-frame count-width frame-length
   counted-full {r} {f} w q t v =
-      let z : r ≡ 0 = t ∙ none-refused s (m .count) start d (w .settled) (w .counted) (w .pointed) (omega (arith, w .room)) in
+      let z : r ≡ 0 = t ∙ none-refused s (m .count) start d (w .settled) (w .counted) (w .pointed) (w .used) (omega (arith, w .room)) in
       record {
         mux = rw (eq-eqb _ _ q) refl;
         frame = λ os frame l e. rw (l, eq-eqb (m .filled + n) (s .zone) q, ← e, v, eq-eqb r 0 z) refl;

@@ -14,6 +14,7 @@ use Rattle.octets.proofs.Tests.{test, and-both}
 use Rattle.frames.specs.Link.{count-width, next-count}
 use Rattle.frames.specs.Frame.{no-start}
 use Rattle.frames.specs.declared.Settings.{Settings}
+use Rattle.frames.proofs.Framed.{Used, pointer-inside, pointer-beyond}
 use Rattle.frames.proofs.Settled.{Settled}
 use Rattle.multiplexer.specs.Multiplex.{mux-reachable, start-now}
 use Rattle.multiplexer.specs.declared.Mux.{Mux}
@@ -96,6 +97,17 @@ start-fits s range m w =
     pick-lt (and (eqb (m .taken) 0) (eqb (m .first) no-start)) (m .filled) (m .first) (2 ^ 11)
     (omega (arith, w .room, range .zone-most))
     (omega (arith, inside-short (m .first) (m .filled) (omega (arith, w .room, range .zone-most)) (w .inside)))
+
+-- is one that is used
+pub start-used : (s : Settings) (m : Mux) → Passing s m → Used s (start-now m)
+unfolding start-now
+start-used s m w = go (and (eqb (m .taken) 0) (eqb (m .first) no-start))
+  where
+    go : (b : Bool) → Used s (pick b (m .filled) (m .first))
+    go true = pointer-inside s (m .filled) (w .room)
+    go false =
+        by-inside (m .first) (m .filled) (w .inside) (λ none. pointer-beyond s (m .first) (omega arith))
+        (λ below. pointer-inside s (m .first) (omega (arith, w .room)))
 
 -- and lies inside the octets that the zone then has
 pub start-inside : (s : Settings) (m : Mux) (n : ℕ) → Passing s m → 0 < n → Inside (start-now m) (m .filled + n)

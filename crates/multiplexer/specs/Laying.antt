@@ -2,23 +2,24 @@
 use mathlib.Core.Path.{_≡_}
 use Prim.Native.Nat.{ℕ, _+_, _^_, _≤_, _<_}
 use mathlib.Core.List.{List}
-use mathlib.Core.Bool.{true}
+use mathlib.Core.Bool.{true, false}
 use lib.ListN.{length}
 use Rattle.octets.specs.Basics.{part, over}
 use Rattle.frames.specs.Link.{zone-at, count-width}
-use Rattle.frames.specs.Frame.{in-range, frame-length}
+use Rattle.frames.specs.Frame.{in-range, frame-length, unused}
 use Rattle.frames.specs.declared.Settings.{Settings}
 use Rattle.multiplexer.specs.Multiplex.{filled-frame, filled-mux, fits-now, put}
 use Rattle.multiplexer.specs.Calls.{doing, answers}
 use Rattle.multiplexer.specs.declared.Mux.{Mux}
 use Rattle.multiplexer.specs.declared.Reply.{Reply}
 
--- the frame has room, and n octets more stay within its zone
+-- the frame has room, n octets more stay within its zone, and the start is a pointer that may be written: below Z, 2,046 or 2,047
 pub record Fills (s : Settings) (m : Mux) (start n : ℕ) (frame : List ℕ) : Type 0 where
   pub settled : in-range s ≡ true
   pub room : frame-length s ≤ length frame
   pub counted : m .count < 2 ^ count-width (s .link)
   pub pointed : start < 2 ^ 11
+  pub used : unused s start ≡ false
   pub inside : m .filled + n ≤ s .zone
 
 -- `laid` is the frame with `os` in its zone behind those that are there

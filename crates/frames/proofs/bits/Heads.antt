@@ -1,28 +1,28 @@
 -- The headers of a bitstream frame: written, read back, and written again from what is read.
 -- Assumes nothing.
-use mathlib.Core.Path.{_≡_, refl, sym, ap, _∙_}
+use mathlib.Core.Path.{_≡_, sym, ap, _∙_}
 use mathlib.Core.List.{List, _++_}
 use mathlib.Core.Bool.{true, false}
-use Prim.Native.Nat.{ℕ, _+_, _-_, _^_, _≤_, _<_}
+use Prim.Native.Nat.{ℕ, _+_, _^_, _≤_, _<_}
 use native.Mathlib.Omega.{arith}
 use lib.ListN.{length, take, drop, length-drop}
 use lib.Seq.{take-all}
-use borrow.Author.Tests.{lt-ltb, le-ltb, eq-eqb, eqb-true, not-false}
-use Rattle.octets.specs.Basics.{read, first}
+use borrow.Author.Tests.{lt-ltb, eq-eqb, eqb-true, not-false}
+use Rattle.octets.specs.Basics.{AllOctets, first}
 use Rattle.octets.proofs.Choices.{none-holds}
-use Rattle.octets.proofs.Fields.{foot-read, foot-above, foot-lt}
-use Rattle.octets.proofs.Numbers.{Octets}
-use Rattle.frames.specs.Link.{head-word, headers, primary, zone-head, count-place, replay-place, count-width}
+use Rattle.frames.specs.Link.{headers, primary, count-width}
 use Rattle.frames.specs.BitFrame.{bits-in-range, bit-frame-length, bit-frame-rows, bit-zone-of, bit-count, bit-replay, bit-spare, bit-spare-place, bit-pointer, bit-pointer-place, bit-unused, bit-head, bit-head-rows, bit-pointer-word}
+use Rattle.frames.specs.Statements.{HeadersBack}
 use Rattle.frames.specs.declared.bits.BitSettings.{BitSettings}
 use Rattle.frames.proofs.Rows.{SoundHeader, sound-header, header-taken}
-use Rattle.frames.proofs.ReadBack.{length-headers, primary-written, zone-head-written, version-written, spacecraft-written, channel-written, count-written, replay-written, spare-written, headers-again}
-use Rattle.frames.proofs.bits.Settled.{BitsSettled}
+use Rattle.frames.proofs.ReadBack.{length-headers, headers-back, back-sound, headers-again}
+use Rattle.frames.proofs.Heads.{written-taken}
+use Rattle.frames.proofs.bits.Settled.{BitsSettled, bits-settled}
 
-pub bit-head-taken : (s : BitSettings) (c p : ℕ) (d : List ℕ) → bits-in-range s ≡ true → c < 2 ^ count-width (s .link) → p < 2 ^ 14 → 8 ≤ length d
-    → first (bit-head-rows s c p d) ≡ 0
-unfolding first bit-head-rows
-bit-head-taken s c p d e h k r = rw (e, lt-ltb c (2 ^ count-width (s .link)) h, lt-ltb p (2 ^ 14) k, le-ltb (length d) 8 r) refl
+pub bit-head-taken : (s : BitSettings) (c p : ℕ) (d : List ℕ) → bits-in-range s ≡ true → c < 2 ^ count-width (s .link) → p < 2 ^ 14
+    → bit-unused s p ≡ false → 8 ≤ length d → first (bit-head-rows s c p d) ≡ 0
+unfolding bit-head-rows
+bit-head-taken s c p d e h k u r = written-taken (s .link) c d e h (lt-ltb p (2 ^ 14) k) u r
 
 pub length-bit-head : (s : BitSettings) (c p : ℕ) → length (bit-head s c p) ≡ 8
 unfolding bit-head
@@ -30,42 +30,17 @@ length-bit-head s c p = length-headers (s .link) c 0 (bit-pointer-word p)
 
 -- ---- a frame that begins with its written head is read back
 
-module _ (s : BitSettings) (range : BitsSettled s) (c p : ℕ) (wheel : c < 2 ^ count-width (s .link)) (short : p < 2 ^ 14) (f : List ℕ) (headed : take 8 f ≡ bit-head s c p) where
-  primary-read : primary (s .link) f ≡ head-word (s .link) c 0
-  unfolding bit-head
-  primary-read = primary-written (s .link) c 0 (bit-pointer-word p) f headed
+pub bit-head-back : (s : BitSettings) (c p : ℕ) (f : List ℕ) → bits-in-range s ≡ true → c < 2 ^ count-width (s .link) → p < 2 ^ 14
+    → take 8 f ≡ bit-head s c p → HeadersBack (s .link) bit-spare-place bit-pointer-place c p f
+unfolding bit-head
+bit-head-back s c p f ok wheel short headed =
+    headers-back (s .link) 14 c p f (bits-settled s ok .on-link) (omega arith) wheel short headed
 
-  zone-head-read : zone-head (s .link) f ≡ bit-pointer-word p
-  unfolding bit-head
-  zone-head-read =
-      zone-head-written (s .link) c 0 (bit-pointer-word p) f headed (foot-lt 14 p (omega arith) 16 (omega arith))
-
-  pub bit-count-read : bit-count s f ≡ c
-  bit-count-read = ap (read count-place) primary-read ∙ count-written (s .link) c 0 wheel
-
-  pub bit-replay-read : bit-replay s f ≡ 0
-  bit-replay-read = ap (read replay-place) primary-read ∙ replay-written (s .link) c 0 (omega arith)
-
-  pub bit-pointer-read : bit-pointer s f ≡ p
-  bit-pointer-read = ap (read bit-pointer-place) zone-head-read ∙ foot-read 14 p (omega arith) short
-
-  bit-spare-read : bit-spare s f ≡ 0
-  bit-spare-read = ap (read bit-spare-place) zone-head-read ∙ foot-above 14 p (omega arith) 14 2 (omega arith)
-
-  -- and it is not refused, where its length is right and its pointer one that is used
-  pub bit-frame-taken : length f ≡ bit-frame-length s → bit-unused s p ≡ false → first (bit-frame-rows s f) ≡ 0
-  unfolding first bit-frame-rows
-  bit-frame-taken long used =
-      rw (eq-eqb _ _ long, primary-read, bit-spare-read, bit-pointer-read)
-      (header-taken (s .link) (head-word (s .link) c 0) 0 (bit-unused s p)
-      (record {
-        version-right = version-written (s .link) c 0;
-        spacecraft-right = spacecraft-written (s .link) c 0 (range .on-link .spacecraft-most);
-        channel-right = channel-written (s .link) c 0 (range .on-link .channel-most);
-        spare-clear = spare-written (s .link) c 0;
-        zone-spare-clear = refl;
-        pointer-used = used;
-      }))
+-- and it is not refused, where its length is right and its pointer one that is used
+pub bit-frame-taken : (s : BitSettings) {c p : ℕ} {f : List ℕ} → HeadersBack (s .link) bit-spare-place bit-pointer-place c p f
+    → length f ≡ bit-frame-length s → bit-unused s p ≡ false → first (bit-frame-rows s f) ≡ 0
+unfolding first bit-frame-rows
+bit-frame-taken s back long used = rw (eq-eqb _ _ long) (header-taken (s .link) _ _ _ (back-sound (bit-unused s) back used))
 
 -- ---- the other way round
 
@@ -80,7 +55,7 @@ sound-bits s f e =
     record { length-right = eqb-true _ _ (not-false _ (n .0)); header = sound-header _ _ _ _ (n .1) }
 
 -- a frame that is not refused is its headers, written again from what is read, and its zone
-pub bit-frame-again : (s : BitSettings) (f : List ℕ) → BitsSettled s → Octets f → first (bit-frame-rows s f) ≡ 0
+pub bit-frame-again : (s : BitSettings) (f : List ℕ) → BitsSettled s → AllOctets f → first (bit-frame-rows s f) ≡ 0
     → f ≡ headers (s .link) (bit-count s f) (bit-replay s f) (bit-pointer-word (bit-pointer s f)) ++ bit-zone-of s f
 unfolding bit-zone-of bit-frame-length
 bit-frame-again s f range o e =

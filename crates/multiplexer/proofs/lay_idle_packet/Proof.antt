@@ -10,7 +10,7 @@ use Rattle.frames.specs.Frame.{frame-length}
 use Rattle.packets.specs.Idle.{idle-packet}
 use Rattle.packets.proofs.Idles.{idle-length, idle-admits}
 use Rattle.multiplexer.specs.Multiplex.{fits-now}
-use Rattle.multiplexer.proofs.Records.{start-fits}
+use Rattle.multiplexer.proofs.Records.{start-fits, start-used}
 use Rattle.multiplexer.proofs.Rows.{Accepted, flush-passed}
 use Rattle.multiplexer.proofs.Laying.{accepted-fills, part-all}
 use borrow.Author.Needs.{needs}
@@ -46,7 +46,8 @@ packet-laid-requires c κs =
     let at-start = at-write .before .before .before .before .before .before in
     let a = at-start .args in
     let w = passed at-start in (
-      accepted-fills _ _ _ (w .0) (at-write .write-idle .kept .0) (start-fits (a .s) (w .0 .range) (a .m) (w .0 .passes)) (omega arith),
+      accepted-fills _ _ _ (w .0) (at-write .write-idle .kept .0) (start-fits (a .s) (w .0 .range) (a .m) (w .0 .passes))
+          (start-used (a .s) (a .m) (w .0 .passes)) (omega arith),
       omega arith,
     )
 

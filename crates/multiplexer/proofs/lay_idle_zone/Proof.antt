@@ -4,6 +4,7 @@ use mathlib.Core.Path.{_≡_}
 use native.Mathlib.Omega.{arith}
 use lib.ListN.{length, replicate, length-replicate}
 use Rattle.frames.specs.Frame.{idle-zone}
+use Rattle.frames.proofs.Framed.{pointer-beyond}
 use Rattle.multiplexer.proofs.Rows.{Accepted, idle-passed}
 use Rattle.multiplexer.proofs.Laying.{accepted-fills, laid-in, zone-laid}
 use borrow.Author.Needs.{needs}
@@ -22,7 +23,7 @@ count-in-requires : tie.Need-count-in-requires
 count-in-requires c κs =
     let at-fill = c .before .before .before in
     let w = passed (at-fill .before .before .before .before) in
-    accepted-fills idle-zone _ _ (w .0) (at-fill .fill .kept .0) (omega arith) (omega arith)
+    accepted-fills idle-zone _ _ (w .0) (at-fill .fill .kept .0) (omega arith) (pointer-beyond _ idle-zone (omega arith)) (omega arith)
 
 returns : tie.Need-returns
 returns c =

@@ -5,7 +5,7 @@ use Prim.Native.Nat.{_+_, _≤_}
 use native.Mathlib.Omega.{arith}
 use lib.ListN.{length}
 use Rattle.multiplexer.specs.Multiplex.{fits-now}
-use Rattle.multiplexer.proofs.Records.{start-fits}
+use Rattle.multiplexer.proofs.Records.{start-fits, start-used}
 use Rattle.multiplexer.proofs.Rows.{Accepted, put-passed}
 use Rattle.multiplexer.proofs.Laying.{accepted-fills, part-laid-in}
 use borrow.Author.Needs.{needs}
@@ -44,7 +44,7 @@ packet-laid-requires c κs =
     let a = at-start .args in
     let w = passed at-start .0 in
     let h = within at-least in
-    (accepted-fills _ _ _ w (at-lay .lay .kept .0) (start-fits (a .s) (w .range) (a .m) (w .passes)) (h .0), h .1)
+    (accepted-fills _ _ _ w (at-lay .lay .kept .0) (start-fits (a .s) (w .range) (a .m) (w .passes)) (start-used (a .s) (a .m) (w .passes)) (h .0), h .1)
 
 returns : tie.Need-returns
 unfolding fits-now

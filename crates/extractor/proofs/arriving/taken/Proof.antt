@@ -33,7 +33,7 @@ module _ (s : Settings) (x : Extractor) (h : Heading) (store f : List ℕ) (admi
   arrived = arrives s x store f admits
 
   heads : h ≡ record { refusal = 0; count = count s f; replay = replay s f; pointer = pointer s f }
-  heads = says ∙ accepted-heading s f (arrived .accepts)
+  heads = says ∙ accepted-heading s f (arrived .ranged) (arrived .accepts)
 
   counts : h .count ≡ count s f
   counts = ap (λ (g : Heading). g .count) heads

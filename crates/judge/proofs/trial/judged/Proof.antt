@@ -40,11 +40,12 @@ returns c =
     let at-tried = c .before .before in
     let at-ready = at-tried .before .before in
     let at-told = at-ready .before in
-    let a = at-told .before .before .before .before .args in
+    let b = at-told .before .before .before .before in
+    let a = b .args in
     rw (at-told .enum-told .given .1)
     (at-tried .tried .ensures
     ∙ ap (λ (x : Extractor). try-frame (a .s) 0 (stands-for (a .store .now) x) (a .store .now) (a .frame .now)) (at-ready .ready-for .ensures)
-    ∙ opened-tried (a .s) (a .store .now) (a .frame .now))
+    ∙ opened-tried (a .s) (a .store .now) (a .frame .now) (accepted b (at-told .enum-told .given .1) .ranged))
 
 returns-2 : tie.Need-returns-2
 unfolding judge-frame

@@ -1,0 +1,37 @@
+-- What is shown of the headers of frames, of packet channels and of bitstream channels.
+use mathlib.Core.Path.{_≡_}
+use Prim.Native.Nat.{ℕ, _^_, _<_}
+use mathlib.Core.List.{List, _++_}
+use mathlib.Core.Bool.{true}
+use lib.ListN.{take}
+use Rattle.octets.specs.Basics.{AllOctets, read, first}
+use Rattle.octets.specs.declared.Place.{Place}
+use Rattle.frames.specs.Link.{zone-at, primary, zone-head, version-place, spacecraft-place, channel-place, count-place, replay-place, spare-place, count-width, headers}
+use Rattle.frames.specs.Frame.{in-range, frame-rows, zone-of, count, replay, zone-spare-place, pointer-place, pointer, pointer-word, head}
+use Rattle.frames.specs.BitFrame.{bits-in-range, bit-frame-rows, bit-zone-of, bit-count, bit-replay, bit-spare-place, bit-pointer-place, bit-pointer, bit-pointer-word, bit-head}
+use Rattle.frames.specs.declared.Link.{Link}
+use Rattle.frames.specs.declared.Settings.{Settings}
+use Rattle.frames.specs.declared.bits.BitSettings.{BitSettings}
+
+-- headers that were written with this count and pointer, read back field by field: the replay flag and all spare bits are 0
+pub record HeadersBack (l : Link) (zone-spare-at pointer-at : Place) (c p : ℕ) (f : List ℕ) : Type 0 where
+  pub version-back : read version-place (primary l f) ≡ 1
+  pub spacecraft-back : read spacecraft-place (primary l f) ≡ l .spacecraft
+  pub channel-back : read channel-place (primary l f) ≡ l .channel
+  pub count-back : read count-place (primary l f) ≡ c
+  pub replay-back : read replay-place (primary l f) ≡ 0
+  pub spare-back : read spare-place (primary l f) ≡ 0
+  pub zone-spare-back : read zone-spare-at (zone-head l f) ≡ 0
+  pub pointer-back : read pointer-at (zone-head l f) ≡ p
+
+-- a frame that begins with written headers is read back; and a frame that is not refused is its headers, written again from what
+-- is read, and its zone: for both channels
+pub record HeadersRead : Type 0 where
+  pub back : (s : Settings) (c p : ℕ) (f : List ℕ) → in-range s ≡ true → c < 2 ^ count-width (s .link) → p < 2 ^ 11
+      → take (zone-at (s .link)) f ≡ head s c p → HeadersBack (s .link) zone-spare-place pointer-place c p f
+  pub again : (s : Settings) (f : List ℕ) → in-range s ≡ true → AllOctets f → first (frame-rows s f) ≡ 0
+      → f ≡ headers (s .link) (count s f) (replay s f) (pointer-word (pointer s f)) ++ zone-of s f
+  pub bits-back : (s : BitSettings) (c p : ℕ) (f : List ℕ) → bits-in-range s ≡ true → c < 2 ^ count-width (s .link) → p < 2 ^ 14
+      → take (zone-at (s .link)) f ≡ bit-head s c p → HeadersBack (s .link) bit-spare-place bit-pointer-place c p f
+  pub bits-again : (s : BitSettings) (f : List ℕ) → bits-in-range s ≡ true → AllOctets f → first (bit-frame-rows s f) ≡ 0
+      → f ≡ headers (s .link) (bit-count s f) (bit-replay s f) (bit-pointer-word (bit-pointer s f)) ++ bit-zone-of s f
