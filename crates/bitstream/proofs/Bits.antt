@@ -11,10 +11,10 @@ use lib.Dec.{ltb}
 use lib.Pow.{mod-mod-pow}
 use lib.Pow as pow
 use borrow.Author.Tests.{lt-ltb, le-ltb}
-use Rattle.octets.specs.Basics.{pick, field, read}
+use Rattle.octets.specs.Basics.{AllOctets, pick, field, read}
 use Rattle.octets.proofs.Choices.{split}
 use Rattle.octets.proofs.Fields.{placed-read, placed-above, placed-lt, agree-on}
-use Rattle.octets.proofs.Numbers.{Octets}
+use Rattle.octets.proofs.Fronts.{octet-lt}
 use Rattle.bitstream.specs.Bitstream.{mixed, bit-place, bit-at}
 
 -- a field that lies in the low bits of a word goes by these alone
@@ -70,11 +70,11 @@ octet-by-bits a b h k e =
         subst (λ (k : ℕ). a % 2 ^ k ≡ b % 2 ^ k) (omega arith) (agree-on a b i 1 (agree i (omega arith)) bit)
 
 -- lists of as many octets with the same bits are the same
-pub octets-by-bits : (a b : List ℕ) → Octets a → Octets b → length a ≡ length b → ((i : ℕ) → i < 8 * length a → bit-at a i ≡ bit-at b i) → a ≡ b
+pub octets-by-bits : (a b : List ℕ) → AllOctets a → AllOctets b → length a ≡ length b → ((i : ℕ) → i < 8 * length a → bit-at a i ≡ bit-at b i) → a ≡ b
 unfolding bit-at
 octets-by-bits a b p q h e =
     ext-getD 0 a b h
-    (λ j k. octet-by-bits (getD a j 0) (getD b j 0) (p j .fits) (q j .fits)
+    (λ j k. octet-by-bits (getD a j 0) (getD b j 0) (octet-lt a p j) (octet-lt b q j)
     (λ i l.
     let octet : (8 * j + i) / 8 ≡ j = omega arith in
     let place : (8 * j + i) % 8 ≡ i = omega arith in

@@ -1,29 +1,31 @@
 -- The records that pass the checks of refusal 10 are exactly those that calls reach.
 -- Assumes nothing.
-use mathlib.Core.Path.{_≡_, refl, sym, ap, subst, _∙_}
-use mathlib.Core.List.{List, []}
+use mathlib.Core.Path.{_≡_, refl, sym, ap, subst}
+use mathlib.Core.List.{List, [], _++_}
 use mathlib.Core.Bool.{Bool, true, false}
 use Prim.Native.Nat.{ℕ, zero, suc, _+_, _^_, _<_}
 use native.Mathlib.Nat.{mod-lt, mod-eq-of-lt}
 use native.Mathlib.Omega.{arith}
-use lib.ListN.{length, replicate, length-replicate}
+use lib.ListN.{length, replicate, length-append, length-replicate}
 use lib.Dec.{eqb}
+use lib.Seq.{take-at}
 use lib.Pow.{pow-pos}
 use borrow.Author.Tests.{le-leb, lt-ltb, le-ltb, ltb-true}
-use Rattle.octets.specs.Basics.{first}
-use Rattle.frames.specs.Link.{count-width, next-count, primary}
-use Rattle.frames.specs.BitFrame.{bits-in-range, bit-frame-length, bit-count, most-bits}
+use Rattle.octets.specs.Basics.{AllOctets, octets, first}
+use Rattle.octets.proofs.Fronts.{all-append, all-zeros, all-octets}
+use Rattle.frames.specs.Link.{count-width, next-count, primary, head-word, headers}
+use Rattle.frames.specs.BitFrame.{bits-in-range, bit-frame-length, bit-count, most-bits, fill-only, bit-head, bit-pointer-word}
 use Rattle.frames.specs.declared.bits.BitSettings.{BitSettings}
 use Rattle.frames.proofs.Wheel.{count-lt}
-use Rattle.bitstream.specs.Bitstream.{octets-for, writer-reachable, write-rows, Wrote, written, frame-with, reader-reachable, read-rows, reading}
-use Rattle.bitstream.specs.Statements.{WriterReached, nothing-written, wrote-more, ReaderReached, nothing-read, read-more}
+use Rattle.frames.proofs.bits.Settled.{bits-settled}
+use Rattle.frames.proofs.bits.Heads.{length-bit-head, bit-head-back, bit-frame-taken}
+use Rattle.bitstream.specs.Bitstream.{octets-for, writer-reachable, write-rows, pointer-for, Wrote, written, reader-reachable, read-rows, reading}
+use Rattle.bitstream.specs.Statements.{WriterReached, nothing-written, wrote-more, ReaderReached, nothing-read, read-more, ReachesAll}
 use Rattle.bitstream.specs.declared.Writer.{Writer}
 use Rattle.bitstream.specs.declared.Reader.{Reader}
 use Rattle.bitstream.specs.declared.Reader.the-variants.{Fresh, Last}
-use Rattle.bitstream.specs.declared.Reading.{Reading}
-use Rattle.bitstream.proofs.Answers.{write-refusal}
 use Rattle.bitstream.proofs.Writes.{write-done}
-use Rattle.bitstream.proofs.ReadBack.{frame-read-back}
+use Rattle.bitstream.proofs.Pointers.{pointer-used}
 
 -- ---- what a call hands back passes its own check
 
@@ -47,12 +49,12 @@ reader-kept s x f h = go (eqb (first (read-rows s x f)) 0) refl
 pub writer-passes : (s : BitSettings) (w : Writer) → WriterReached s w → writer-reachable s w ≡ true
 unfolding writer-reachable count-width
 writer-passes s w nothing-written = refl
-writer-passes s w (wrote-more {w = v} r bits n d e) = writer-kept s v bits n d (writer-passes s v r)
+writer-passes s w (wrote-more {w = v} bits n d _ _ r) = writer-kept s v bits n d (writer-passes s v r)
 
 pub reader-passes : (s : BitSettings) (x : Reader) → ReaderReached s x → reader-reachable s x ≡ true
 unfolding reader-reachable
 reader-passes s x nothing-read = refl
-reader-passes s x (read-more {x = y} r f e) = reader-kept s y f (reader-passes s y r)
+reader-passes s x (read-more {x = y} f _ r) = reader-kept s y f (reader-passes s y r)
 
 -- ---- what passes is reached, where the settings are in range: a writer by so many calls with no bits, a reader by one frame
 
@@ -75,7 +77,7 @@ module _ (s : BitSettings) (range : bits-in-range s ≡ true) where
       let small : c + 1 < 2 ^ count-width (s .link) = omega arith in
       let next : suc c ≡ next-count (count-width (s .link)) c = omega (arith, mod-eq-of-lt small) in
       subst (WriterReached s) (sym (ap (λ (a : Wrote). a .said .writer) (write-done s (counted c) 0 [] frame (suc c) _ n next refl)))
-      (wrote-more r [] 0 frame (write-refusal s (counted c) 0 [] frame ∙ n))
+      (wrote-more [] 0 frame tt (all-zeros (bit-frame-length s)) r)
 
   counts : (c : ℕ) → c < 2 ^ count-width (s .link) → WriterReached s (counted c)
   counts zero h = nothing-written
@@ -85,10 +87,36 @@ module _ (s : BitSettings) (range : bits-in-range s ≡ true) where
   unfolding writer-reachable
   writer-reached w h = counts (w .count) (ltb-true _ _ h)
 
+  -- a frame of fill alone
+  abbrev blank : List ℕ
+  blank = replicate (s .width) 0
+
+  abbrev idle : ℕ → List ℕ
+  idle c = bit-head s c fill-only ++ blank
+
+  all-idle : (c : ℕ) → AllOctets (idle c)
+  unfolding bit-head headers
+  all-idle c =
+      all-append (bit-head s c fill-only) blank
+      (all-append (octets 6 (head-word (s .link) c 0)) (octets 2 (bit-pointer-word fill-only)) (all-octets 6 _) (all-octets 2 _)) (all-zeros (s .width))
+
+  reads : (c : ℕ) → c < 2 ^ count-width (s .link) → reading s Fresh (idle c) .reader ≡ Last c
+  unfolding reading reader-reachable read-rows first bit-frame-length pointer-for
+  reads c h =
+      let eight : length (bit-head s c fill-only) ≡ 8 = length-bit-head s c fill-only in
+      let long : length (idle c) ≡ bit-frame-length s = rw (length-append, length-replicate) (omega arith) in
+      let back = bit-head-back s c fill-only (idle c) range h (omega arith) (take-at (bit-head s c fill-only) blank 8 eight) in
+      let taken = bit-frame-taken s back long (pointer-used s (bits-settled s range) 0 (omega arith)) in
+      rw (range, taken, back .count-back) refl
+
   pub reader-reached : (x : Reader) → reader-reachable s x ≡ true → ReaderReached s x
-  unfolding reader-reachable octets-for
+  unfolding reader-reachable
   reader-reached Fresh h = nothing-read
-  reader-reached (Last c) h =
-      let back = frame-read-back s range c 0 [] (ltb-true _ _ h) (omega arith) (omega arith) (λ i. record { fits = omega arith }) Fresh refl .said in
-      subst (ReaderReached s) (ap (λ (a : Reading). a .reader) back)
-      (read-more nothing-read (frame-with s c 0 []) (ap (λ (a : Reading). a .refusal) back))
+  reader-reached (Last c) h = subst (ReaderReached s) (reads c (ltb-true _ _ h)) (read-more (idle c) (all-idle c) nothing-read)
+
+-- CALLS LEAD EXACTLY TO THE RECORDS THAT PASS
+pub reaches-all : ReachesAll
+reaches-all = record {
+  writers = λ s range w. (writer-passes s w, writer-reached s range w);
+  readers = λ s range x. (reader-passes s x, reader-reached s range x);
+}

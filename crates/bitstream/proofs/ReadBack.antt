@@ -9,16 +9,17 @@ use lib.ListN.{length, take, drop, length-append, length-drop}
 use lib.Seq.{take-at, drop-at, getD-take, length-take-le}
 use lib.Dec.{leb, eqb}
 use borrow.Author.Tests.{le-leb, lt-ltb, eq-eqb}
-use Rattle.octets.specs.Basics.{pick, and, read, over, first}
+use Rattle.octets.specs.Basics.{AllOctets, pick, and, read, over, first}
 use Rattle.octets.proofs.Fields.{field-lt}
-use Rattle.octets.proofs.Numbers.{Octets, octets-take, octets-drop}
+use Rattle.octets.proofs.Fronts.{all-take, all-drop}
 use Rattle.octets.proofs.Written.{over-take}
 use Rattle.frames.specs.Link.{headers, zone-head, count-width}
-use Rattle.frames.specs.BitFrame.{bits-in-range, bit-frame-length, bit-frame-rows, bit-head, bit-zone-of, bit-count, bit-replay, bit-pointer, bit-pointer-word, most-bits}
+use Rattle.frames.specs.BitFrame.{bits-in-range, bit-frame-length, bit-frame-rows, bit-head, bit-zone-of, bit-count, bit-replay, bit-spare-place, bit-pointer-place, bit-pointer, bit-pointer-word, most-bits}
+use Rattle.frames.specs.Statements.{HeadersBack}
 use Rattle.frames.specs.declared.bits.BitSettings.{BitSettings}
 use Rattle.frames.proofs.ReadBack.{length-headers}
 use Rattle.frames.proofs.bits.Settled.{BitsSettled, bits-settled}
-use Rattle.frames.proofs.bits.Heads.{length-bit-head, bit-count-read, bit-replay-read, bit-pointer-read, bit-frame-taken, SoundBits, sound-bits, bit-frame-again}
+use Rattle.frames.proofs.bits.Heads.{length-bit-head, bit-head-back, bit-frame-taken, SoundBits, sound-bits, bit-frame-again}
 use Rattle.bitstream.specs.Bitstream.{octets-for, bit-at, bit-place, pointer-for, valid-bits, zone-with, frame-with, write-rows, Wrote, written, reader-reachable, read-rows, loss-flag, reading, leading-octets}
 use Rattle.bitstream.specs.Statements.{ReadBack, HasBits}
 use Rattle.bitstream.specs.declared.Writer.{Writer}
@@ -62,31 +63,24 @@ module _ (s : BitSettings) (range : bits-in-range s ≡ true) (c n : ℕ) (bits 
   short : pointer-for s n < 2 ^ 14
   short = pointer-lt s n inside (settled .width-most)
 
+  back : HeadersBack (s .link) bit-spare-place bit-pointer-place c (pointer-for s n) f
+  back = bit-head-back s c (pointer-for s n) f range wheel short headed
+
   taken : first (bit-frame-rows s f) ≡ 0
-  taken = bit-frame-taken s settled c (pointer-for s n) wheel short f headed length-frame (pointer-used s settled n inside)
+  taken = bit-frame-taken s back length-frame (pointer-used s settled n inside)
 
   said : (x : Reader) → reader-reachable s x ≡ true
       → reading s x f ≡ record { refusal = 0; count = c; replay = 0; bits = n; lost = loss-flag s x c; reader = Last c }
   unfolding reading read-rows first
   said x reached =
-      let p : ℕ = pointer-for s n in
-      rw (
-        range,
-        reached,
-        taken,
-        bit-count-read s settled c p wheel short f headed,
-        bit-replay-read s settled c p wheel short f headed,
-        bit-pointer-read s settled c p wheel short f headed,
-        valid-pointer s settled n inside,
-      )
-      refl
+      rw (range, reached, taken, back .count-back, back .replay-back, back .pointer-back, valid-pointer s settled n inside) refl
 
   leading : leading-octets s n f ≡ take (octets-for n) (zone-with s n bits)
   leading =
       leading-some s n f (rw (eq-eqb (length f) (bit-frame-length s) length-frame, le-leb n (most-bits s) inside) refl)
       ∙ ap (take (octets-for n)) zoned
 
-  pub frame-read-back : Octets bits → (x : Reader) → reader-reachable s x ≡ true → ReadBack s x c n bits f
+  pub frame-read-back : AllOctets bits → (x : Reader) → reader-reachable s x ≡ true → ReadBack s x c n bits f
   unfolding octets-for
   frame-read-back octets x reached = record {
     said = said x reached;
@@ -117,14 +111,14 @@ module _ (s : BitSettings) (w : Writer) (bits : List ℕ) (n : ℕ) (d : List �
       ∙ over-take d 0 frame (omega arith)
 
   -- WHAT IS WRITTEN IS READ BACK, by any reader that calls reach
-  pub read-back : Octets bits → (x : Reader) → reader-reachable s x ≡ true
+  pub read-back : AllOctets bits → (x : Reader) → reader-reachable s x ≡ true
       → ReadBack s x (w .count) n bits (take (bit-frame-length s) (written s w bits n d .frame))
   read-back octets x reached =
       rw front (frame-read-back s (given .in-range) (w .count) n bits (given .counted) (given .inside) (given .lent-enough) octets x reached)
 
 -- ---- the other way round
 
-module _ (s : BitSettings) (x : Reader) (f : List ℕ) (octets : Octets f) (done : reading s x f .refusal ≡ 0) where
+module _ (s : BitSettings) (x : Reader) (f : List ℕ) (octets : AllOctets f) (done : reading s x f .refusal ≡ 0) where
   clear : Readable s x f
   clear = readable s x f (sym (read-refusal s x f) ∙ done)
 
@@ -164,9 +158,9 @@ module _ (s : BitSettings) (x : Reader) (f : List ℕ) (octets : Octets f) (done
   unfolding octets-for
   same-of i h = ap (λ (os : List ℕ). bit-at os i) front-of ∙ bit-take (octets-for n) (bit-zone-of s f) i (omega arith)
 
-  octets-front : Octets (leading-octets s n f)
+  octets-front : AllOctets (leading-octets s n f)
   unfolding bit-zone-of
-  octets-front = rw front-of (octets-take (octets-for n) _ (octets-take (s .width) _ (octets-drop 8 f octets)))
+  octets-front = rw front-of (all-take (octets-for n) _ (all-take (s .width) _ (all-drop 8 f octets)))
 
   head-of : take 8 f ≡ headers (s .link) (bit-count s f) (bit-replay s f) (bit-pointer-word (pointer-for s n))
   head-of =

@@ -8,9 +8,10 @@ use borrow.Author.Tests.{not-false}
 use Rattle.octets.specs.Basics.{pick, first}
 use Rattle.octets.proofs.Choices.{none-holds}
 use Rattle.frames.specs.Frame.{heading-of}
-use Rattle.frames.specs.BitFrame.{bits-in-range, bit-frame-rows, bit-heading}
+use Rattle.frames.specs.BitFrame.{bits-in-range, bit-frame-rows, bit-heading-rows, bit-heading}
 use Rattle.frames.specs.declared.bits.BitSettings.{BitSettings}
 use Rattle.frames.specs.declared.Heading.{Heading}
+use Rattle.frames.proofs.Rows.{settled-once}
 use Rattle.bitstream.specs.Bitstream.{valid-bits, reader-reachable, read-rows, loss-flag, reading}
 use Rattle.bitstream.specs.declared.Reader.{Reader}
 use Rattle.bitstream.specs.declared.Reader.the-variants.{Last}
@@ -33,13 +34,14 @@ module _ (s : BitSettings) (x : Reader) (f : List ℕ) where
   -- the refusal, with the header's taken from its heading
   pub refusal-by : (h : Heading) → h ≡ bit-heading s f
       → pick (not (bits-in-range s)) 1 (pick (not (reader-reachable s x)) 10 (h .refusal)) ≡ first (read-rows s x f)
-  unfolding read-rows bit-heading heading-of first
+  unfolding read-rows bit-heading bit-heading-rows heading-of first
   refusal-by h e =
       ap (λ (k : ℕ). pick (not (bits-in-range s)) 1 (pick (not (reader-reachable s x)) 10 k))
-      (ap (λ (g : Heading). g .refusal) e ∙ refusal-kept (λ (g : Heading). g .refusal) (first (bit-frame-rows s f)) _ _ refl refl)
+      (ap (λ (g : Heading). g .refusal) e ∙ refusal-kept (λ (g : Heading). g .refusal) (first (bit-heading-rows s f)) _ _ refl refl)
+      ∙ settled-once (bits-in-range s) (bit-frame-rows s f) (λ k. pick (not (reader-reachable s x)) 10 k)
 
   pub read-done : (h : Heading) → h ≡ bit-heading s f → first (read-rows s x f) ≡ 0
       → record { refusal = 0; count = h .count; replay = h .replay; bits = valid-bits s (h .pointer); lost = loss-flag s x (h .count); reader = Last (h .count) }
       ≡ reading s x f
-  unfolding reading bit-heading heading-of
-  read-done h e r = rw (e, readable s x f r .sound, r) refl
+  unfolding reading bit-heading bit-heading-rows heading-of first
+  read-done h e r = rw (e, readable s x f r .in-range, readable s x f r .sound, r) refl

@@ -18,6 +18,7 @@ use Rattle.frames.proofs.bits.Settled.{BitsSettled, bits-settled}
 use Rattle.frames.proofs.bits.Heads.{bit-head-taken, length-bit-head}
 use Rattle.bitstream.specs.Bitstream.{octets-for, pointer-for, writer-reachable, write-rows, frame-with, zone-with, wrote, written}
 use Rattle.bitstream.specs.declared.Writer.{Writer}
+use Rattle.bitstream.proofs.Pointers.{pointer-used}
 
 -- a table of which no row holds
 pub record Allowed (s : BitSettings) (w : Writer) (n lent room : ℕ) : Type 0 where
@@ -61,7 +62,7 @@ module _ (s : BitSettings) (w : Writer) (n : ℕ) (bits d : List ℕ) (a : Allow
       → e ≡ pick (eqb r 0) (over d 0 (bit-head s (w .count) (pointer-for s n))) d
       → e ≡ over d 0 (bit-head s (w .count) (pointer-for s n))
   headed r e p q =
-      let none = bit-head-taken s (w .count) (pointer-for s n) d (a .in-range) (a .counted) (pointer-lt s n (a .inside) (settled .width-most)) head-fits in
+      let none = bit-head-taken s (w .count) (pointer-for s n) d (a .in-range) (a .counted) (pointer-lt s n (a .inside) (settled .width-most)) (pointer-used s settled n (a .inside)) head-fits in
       q ∙ ap (λ (t : Bool). pick t (over d 0 (bit-head s (w .count) (pointer-for s n))) d) (eq-eqb r 0 (p ∙ none))
 
   pub framed : (e f : List ℕ) → e ≡ over d 0 (bit-head s (w .count) (pointer-for s n)) → f ≡ over e 8 (zone-with s n bits)

@@ -4,15 +4,13 @@ use mathlib.Core.Path.{_≡_, refl, sym, _∙_}
 use mathlib.Core.List.{List, _∷_, _++_}
 use Prim.Native.Nat.{ℕ, suc, _+_, _-_, _*_, _/_, _%_, _≤_, _<_}
 use native.Mathlib.Omega.{arith}
-use lib.ListN.{length, take, getD, replicate, length-append, length-replicate, getD-replicate, List·getD-append, List·getD-eq-default}
+use lib.ListN.{length, take, getD, replicate, length-append, length-replicate, getD-replicate, List·getD-append}
 use lib.Seq.{length-take-le, getD-take, getD-append-add}
 use lib.Dec.{ltb}
-use mir.Syntax.{w8}
-use mir.Val.{Fits}
 use borrow.Author.Tests.{lt-ltb, le-ltb, eq-eqb, ne-eqb}
-use Rattle.octets.specs.Basics.{pick, read}
+use Rattle.octets.specs.Basics.{AllOctets, pick, read}
 use Rattle.octets.proofs.Choices.{split, leb-iff}
-use Rattle.octets.proofs.Numbers.{Octets}
+use Rattle.octets.proofs.Fronts.{octet-lt, all-take, all-append, all-filled}
 use Rattle.frames.specs.declared.bits.BitSettings.{BitSettings}
 use Rattle.bitstream.specs.Bitstream.{octets-for, mixed, last-octet, zone-with, bit-at, bit-place}
 use Rattle.bitstream.proofs.Bits.{mixed-lt, mixed-bit, octets-by-bits}
@@ -72,7 +70,7 @@ module _ (s : BitSettings) (n : ℕ) (bits : List ℕ) (inside : octets-for n �
       ∙ getD-replicate (s .width - (n / 8 + 1)) (j - (n / 8 + 1)) (s .fill) 0 (omega arith)))
 
   -- THE ZONE, BIT BY BIT: the first n are those given, and each other is the fill octet's at the same place
-  pub zone-bit : Octets bits → (i : ℕ) → i < 8 * s .width
+  pub zone-bit : AllOctets bits → (i : ℕ) → i < 8 * s .width
       → bit-at (zone-with s n bits) i ≡ pick (ltb i n) (bit-at bits i) (read (bit-place (i % 8)) (s .fill))
   unfolding bit-at octets-for
   zone-bit octets i h =
@@ -89,27 +87,22 @@ module _ (s : BitSettings) (n : ℕ) (bits : List ℕ) (inside : octets-for n �
           let e : i / 8 ≡ n / 8 = omega arith in
           let t : ltb i n ≡ ltb (i % 8) (n % 8) = leb-iff (suc i) n (suc (i % 8)) (n % 8) (λ k. omega arith) (λ k. omega arith) in
           rw (e, t, octet-last (omega arith))
-          (mixed-bit (n % 8) (getD bits (n / 8) 0) (s .fill) (omega arith) (octets (n / 8) .fits) (i % 8) (omega arith))
+          (mixed-bit (n % 8) (getD bits (n / 8) 0) (s .fill) (omega arith) (octet-lt bits octets (n / 8)) (i % 8) (omega arith))
 
   -- and no other octets have these bits
-  zone-octets : Octets bits → s .fill < 256 → Octets (zone-with s n bits)
+  zone-octets : AllOctets bits → s .fill < 256 → AllOctets (zone-with s n bits)
   unfolding octets-for
-  zone-octets octets fill j =
-      split (s .width) j
-      (λ past. rw (List·getD-eq-default (zone-with s n bits) 0 {n = j} (omega (arith, length-zone))) (record { fits = omega arith }))
-      (λ within. split (n / 8) j
-      (λ behind. split (octets-for n) j
-      (λ rest. rw (octet-rest j rest within) (record { fits = fill }))
-      (λ ends. last j ends behind))
-      (λ whole. rw (octet-front j whole) (octets j)))
-    where
-      last : (j : ℕ) → j < octets-for n → n / 8 ≤ j → Fits w8 (getD (zone-with s n bits) j 0)
-      last j ends behind =
-          let e : j ≡ n / 8 = omega arith in
-          rw (e, octet-last (omega arith))
-          (record { fits = mixed-lt (n % 8) (getD bits (n / 8) 0) (s .fill) (omega arith) (octets (n / 8) .fits) })
+  zone-octets octets fill =
+      let front : AllOctets (take (n / 8) bits) = all-take (n / 8) bits octets in
+      split (n % 8) 0
+      (λ e. rw (zone-whole s n bits (omega arith)) (all-append (take (n / 8) bits) (replicate (s .width - n / 8) (s .fill)) front (all-filled (s .width - n / 8) fill)))
+      (λ e.
+      let last : ℕ = mixed (n % 8) (getD bits (n / 8) 0) (s .fill) in
+      let small : last < 256 = mixed-lt (n % 8) _ (s .fill) (omega arith) (octet-lt bits octets (n / 8)) in
+      let rest : ℕ = s .width - (n / 8 + 1) in
+      rw (zone-mixed s n bits e) (all-append (take (n / 8) bits) (last ∷ replicate rest (s .fill)) front (small, all-filled rest fill)))
 
-  pub zone-only : Octets bits → s .fill < 256 → (z : List ℕ) → Octets z → length z ≡ s .width
+  pub zone-only : AllOctets bits → s .fill < 256 → (z : List ℕ) → AllOctets z → length z ≡ s .width
       → ((i : ℕ) → i < 8 * s .width → bit-at z i ≡ pick (ltb i n) (bit-at bits i) (read (bit-place (i % 8)) (s .fill)))
       → z ≡ zone-with s n bits
   zone-only octets fill z p long e =

@@ -3,7 +3,7 @@ ghost use mathlib.Core.Path.{_≡_};
 ghost use Prim.Native.Nat.{_≤_};
 ghost use Rattle.octets.specs.Basics.{first, over};
 ghost use Rattle.frames.specs.Link.{zone-at, next-count};
-ghost use Rattle.bitstream.specs.Bitstream.{octets-for, pointer-for, valid-bits, mixed, zone-with, writer-reachable, write-rows, wrote, written, reader-reachable, loss-flag, reading, leading-octets, Fits};
+ghost use Rattle.bitstream.specs.Bitstream.{octets-for, pointer-for, valid-bits, mixed, zone-with, begun, writer-reachable, write-rows, wrote, written, reader-reachable, loss-flag, reading, leading-octets, Fits};
 use frames::WHEEL;
 use frames::ZONE_AT;
 use frames::bits::ALL_VALID;
@@ -15,9 +15,6 @@ use octets::Place;
 pub struct Writer {
     pub count: u32,
 }
-
-// A writer that has written nothing.
-pub const BEGUN: Writer = Writer { count: 0 };
 
 // The refusal, 0 for none, and the writer after the call.
 pub struct Written {
@@ -41,6 +38,13 @@ pub struct Reading {
     pub bits: usize,
     pub lost: bool,
     pub reader: Reader,
+}
+
+// A writer that has written nothing.
+pub fn begin() -> Writer
+    ensures { λ r. ⌜ r ≡ begun ⌝ }
+{
+    Writer { count: 0 }
 }
 
 // The count after this one, round the wheel.

@@ -63,7 +63,7 @@ pub(crate) fn begin(label: Given, n: Numbers) -> Ends {
             extractor: Extractor::Fresh,
             store: [0; 4096],
         },
-        writer: bitstream::BEGUN,
+        writer: bitstream::begin(),
         bits: BitReceiver {
             reader: Reader::Fresh,
         },
