@@ -1,6 +1,7 @@
 // What is asked of packets alone. The line of an answer repeats the line that asks.
 use crate::forms::Numbers;
 use crate::forms::Question;
+use crate::header;
 use crate::run::Ends;
 use crate::say;
 use crate::text;
@@ -21,7 +22,7 @@ fn wrapped(answer: Wrapped, n: usize, out: &[u8]) {
 }
 
 // A number as an octet; 255 for any that is more.
-fn octet(n: usize) -> u8 {
+pub(crate) fn octet(n: usize) -> u8 {
     if n < 256 { n as u8 } else { 255 }
 }
 
@@ -88,11 +89,13 @@ pub(crate) fn answer(q: Question, n: Numbers, line: &[u8], e: Ends, p: &[u8]) ->
     say::label(e.label);
     say::line(line);
     match q {
-        Question::Wrap => wrap(n.first, n.second, n.third, n.last),
+        Question::Wrap => wrap(n.fifth, n.sixth, n.seventh, n.last),
         Question::WrapNothing => wrap_nothing(limit),
         Question::Unwrap => unwrap(limit, p),
         Question::Header => header(limit, p),
         Question::Lent => lent(limit, p),
+        Question::SpaceHeader => header::read(p),
+        Question::WriteSpaceHeader => header::write(n),
     }
     say::end();
     e

@@ -21,6 +21,10 @@ pub(crate) enum Question {
     Header,
     // Whether a packet is well-formed, and what its header says.
     Lent,
+    // The fields of a space packet's header.
+    SpaceHeader,
+    // Such a header written into so many octets.
+    WriteSpaceHeader,
 }
 
 pub(crate) enum Verb {
@@ -45,7 +49,7 @@ pub(crate) enum Verb {
     Unknown,
 }
 
-// A line as far as it is read by a form: whether that is all of both, where it is read to, and what stands in it for the last four
+// A line as far as it is read by a form: whether that is all of both, where it is read to, and what stands in it for the last eight
 // signs: a number by its value, octets and a text by where they begin.
 pub(crate) struct Numbers {
     pub(crate) fit: bool,
@@ -53,6 +57,10 @@ pub(crate) struct Numbers {
     pub(crate) first: usize,
     pub(crate) second: usize,
     pub(crate) third: usize,
+    pub(crate) fourth: usize,
+    pub(crate) fifth: usize,
+    pub(crate) sixth: usize,
+    pub(crate) seventh: usize,
     pub(crate) last: usize,
 }
 
@@ -68,6 +76,10 @@ pub(crate) const NONE: Numbers = Numbers {
     first: 0,
     second: 0,
     third: 0,
+    fourth: 0,
+    fifth: 0,
+    sixth: 0,
+    seventh: 0,
     last: 0,
 };
 
@@ -89,6 +101,8 @@ fn verb_at(k: usize) -> Verb {
         14 => Verb::Ask(Question::Unwrap),
         15 => Verb::Ask(Question::Header),
         16 => Verb::Ask(Question::Lent),
+        17 => Verb::Ask(Question::SpaceHeader),
+        18 => Verb::Ask(Question::WriteSpaceHeader),
         _ => Verb::Unknown,
     }
 }
@@ -100,7 +114,11 @@ fn more(n: Numbers, number: usize, end: usize) -> Numbers {
         end,
         first: n.second,
         second: n.third,
-        third: n.last,
+        third: n.fourth,
+        fourth: n.fifth,
+        fifth: n.sixth,
+        sixth: n.seventh,
+        seventh: n.last,
         last: number,
     }
 }
@@ -211,6 +229,8 @@ wrap nothing into an output that is too short
 unwrap $
 header $
 line %: $
+space header $
+write space header into % octets: version % type % secondary % APID % flags % count % length %
 ";
     find(forms, line)
 }

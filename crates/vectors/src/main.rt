@@ -4,6 +4,7 @@ use libc::STDIN_FILENO;
 mod ask;
 mod bits;
 mod forms;
+mod header;
 mod hex;
 mod run;
 mod say;

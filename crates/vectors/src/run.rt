@@ -50,10 +50,10 @@ pub(crate) fn begin(label: Given, n: Numbers) -> Ends {
         label,
         settings: Settings {
             link: Link {
-                spacecraft: (n.second % 4294967296) as u32,
-                channel: (n.first % 4294967296) as u32,
+                spacecraft: (n.sixth % 4294967296) as u32,
+                channel: (n.fifth % 4294967296) as u32,
             },
-            zone: n.third,
+            zone: n.seventh,
             limit: n.last,
             fill: 0x55,
         },

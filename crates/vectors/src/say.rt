@@ -52,6 +52,10 @@ pub(crate) const NOT_WELL_FORMED: usize = 21;
 
 pub(crate) const UNKNOWN: usize = 22;
 
+pub(crate) const SPACE_HEADER: usize = 23;
+
+pub(crate) const SPACE_SEQUENCE: usize = 24;
+
 pub(crate) fn text(t: &[u8]) {
     io::write_all(STDOUT_FILENO, t);
 }
@@ -118,6 +122,8 @@ pub(crate) fn numbers(phrase: usize, a: u64, b: u64, c: u64, d: u64) {
  well-formed, header
  not well-formed, header
 line % is in none of the forms:
+ version % type % secondary % APID %
+ flags % count % length %
 ";
     form(text::line(phrases, phrase), a, b, c, d);
 }
