@@ -10,7 +10,7 @@ use crate::reference::frame::Settings;
 use crate::reference::judge::{self, Verdict};
 use crate::reference::multiplexer;
 use crate::reference::packet::{self, Kind, Look};
-use crate::reference::{wrap, Refusal};
+use crate::reference::{space, wrap, Refusal};
 
 /// Entries of each array.
 pub const SETTINGS: usize = 5;
@@ -18,6 +18,8 @@ pub const BIT_SETTINGS: usize = 4;
 pub const HEADER: usize = 6;
 pub const WRAPPED: usize = 1;
 pub const UNWRAPPED: usize = 4;
+pub const SPACE_READ: usize = 8;
+pub const SPACE_HEADER: usize = 7;
 pub const MUX: usize = 4;
 pub const PUT: usize = 2;
 pub const FLUSH: usize = 1;
@@ -45,6 +47,10 @@ pub trait Calls {
     ) -> u64;
 
     fn unwrap(&self, limit: u64, packet: &[u8], answer: &mut [u64]) -> u64;
+
+    fn read_space(&self, octets: &[u8], answer: &mut [u64]) -> u64;
+
+    fn write_space(&self, header: &[u64], octets: &mut [u8]) -> u64;
 
     fn mux_put(
         &self,
@@ -163,6 +169,32 @@ impl Calls for Reference {
             let (protocol, extension) = (unwrapped.protocol, unwrapped.extension);
             Ok([protocol.into(), extension.into(), start as u64, size as u64])
         })
+    }
+
+    fn read_space(&self, octets: &[u8], answer: &mut [u64]) -> u64 {
+        answered::<SPACE_READ>(answer, || {
+            let fields = space::read(octets)?;
+            Ok([
+                fields.total() as u64,
+                fields.version.into(),
+                fields.packet_type.into(),
+                fields.secondary.into(),
+                fields.apid.into(),
+                fields.flags.into(),
+                fields.count.into(),
+                fields.length.into(),
+            ])
+        })
+    }
+
+    fn write_space(&self, header: &[u64], octets: &mut [u8]) -> u64 {
+        match front(header) {
+            Some(header) => answered::<0>(&mut [], || {
+                space::write(&read_space_fields(header)?, octets)?;
+                Ok([])
+            }),
+            None => Refusal::Room.number(),
+        }
     }
 
     fn mux_put(
@@ -391,6 +423,19 @@ fn number<T: TryFrom<u64>>(value: u64) -> Result<T, Refusal> {
 /// A count in a record; one too great stays too great.
 fn fitted(value: u64) -> u32 {
     value.try_into().unwrap_or(u32::MAX)
+}
+
+fn read_space_fields(header: &[u64; SPACE_HEADER]) -> Result<space::Fields, Refusal> {
+    let [version, packet_type, secondary, apid, flags, count, length] = *header;
+    Ok(space::Fields {
+        version: number(version)?,
+        packet_type: number(packet_type)?,
+        secondary: number(secondary)?,
+        apid: number(apid)?,
+        flags: number(flags)?,
+        count: number(count)?,
+        length: number(length)?,
+    })
 }
 
 fn read_settings(settings: &[u64; SETTINGS]) -> Result<Settings, Refusal> {

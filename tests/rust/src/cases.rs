@@ -8,8 +8,8 @@ use crate::generate;
 use crate::random::Random;
 use crate::reference::frame::{self, Settings, IDLE_ZONE, NO_START, WHEEL};
 use crate::reference::multiplexer;
-use crate::reference::packet::{write_space_header, SpaceFields};
 use crate::reference::runfile::{END, FRAME, SETUP};
+use crate::reference::space;
 
 /// A run file and its name.
 #[derive(Clone, Debug)]
@@ -151,9 +151,17 @@ fn data(size: usize) -> impl Iterator<Item = u8> {
 
 fn space(apid: u16, total: usize) -> Vec<u8> {
     let length = (total - 7) as u16;
-    let fields = SpaceFields { packet_type: 0, secondary: 0, apid, flags: 3, sequence: 0, length };
+    let fields = space::Fields {
+        version: 0,
+        packet_type: 0,
+        secondary: 0,
+        apid,
+        flags: 3,
+        count: 0,
+        length,
+    };
     let mut packet = vec![0; 6];
-    write_space_header(&fields, &mut packet).expect("fields in range");
+    space::write(&fields, &mut packet).expect("fields in range");
     packet.extend(data(total - 6));
     packet
 }

@@ -32,6 +32,20 @@ extern "C" {
         answer_len: usize,
     ) -> u64;
 
+    fn itz_read_space(
+        octets: *const u8,
+        octets_len: usize,
+        answer: *mut u64,
+        answer_len: usize,
+    ) -> u64;
+
+    fn itz_write_space(
+        header: *const u64,
+        header_len: usize,
+        octets: *mut u8,
+        octets_len: usize,
+    ) -> u64;
+
     fn itz_mux_put(
         settings: *const u64,
         settings_len: usize,
@@ -179,6 +193,14 @@ impl Calls for Library {
         unsafe {
             itz_unwrap(limit, packet.as_ptr(), packet.len(), answer.as_mut_ptr(), answer.len())
         }
+    }
+
+    fn read_space(&self, octets: &[u8], answer: &mut [u64]) -> u64 {
+        unsafe { itz_read_space(octets.as_ptr(), octets.len(), answer.as_mut_ptr(), answer.len()) }
+    }
+
+    fn write_space(&self, header: &[u64], octets: &mut [u8]) -> u64 {
+        unsafe { itz_write_space(header.as_ptr(), header.len(), octets.as_mut_ptr(), octets.len()) }
     }
 
     #[inline]

@@ -1,10 +1,11 @@
 //! Generators: settings, packets, runs that conform, and ways to spoil them.
 
-use crate::calls::{BIT_SETTINGS, EXTRACTOR, JUDGE, MUX, SETTINGS};
+use crate::calls::{BIT_SETTINGS, EXTRACTOR, JUDGE, MUX, SETTINGS, SPACE_HEADER};
 use crate::random::Random;
 use crate::reference::frame::{self, Settings, HEAD, IDLE_ZONE, NO_START, WHEEL};
 use crate::reference::multiplexer;
-use crate::reference::packet::{write_space_header, SpaceFields, IDLE_APID};
+use crate::reference::packet::IDLE_APID;
+use crate::reference::space;
 
 /// Settings in range: every small zone, some great ones, limits at both ends.
 pub fn settings(random: &mut Random) -> Settings {
@@ -110,15 +111,16 @@ pub fn packet_of(random: &mut Random, total: usize) -> Vec<u8> {
     }
     match random.pick(&possible) {
         6 => {
-            let fields = SpaceFields {
+            let fields = space::Fields {
+                version: 0,
                 packet_type: random.within(0, 1) as u8,
                 secondary: random.within(0, 1) as u8,
                 apid: if random.once_in(5) { IDLE_APID } else { random.within(0, 2_046) as u16 },
                 flags: random.within(0, 3) as u8,
-                sequence: random.within(0, 16_383) as u16,
+                count: random.within(0, 16_383) as u16,
                 length: (total - 7) as u16,
             };
-            write_space_header(&fields, &mut packet).expect("fields in range");
+            space::write(&fields, &mut packet).expect("fields in range");
         }
         header => {
             let protocol = if header == 1 { 0 } else { random.within(0, 7) as u8 };
@@ -150,6 +152,33 @@ pub fn front(random: &mut Random, limit: usize) -> Vec<u8> {
         _ => {}
     }
     octets
+}
+
+/// Octets that may or may not begin a space packet.
+pub fn space_front(random: &mut Random) -> Vec<u8> {
+    let length = random.pick(&[0, 5, 6, 6, 6, 7, 13]);
+    let mut octets = random.octets(length);
+    if let Some(first) = octets.first_mut() {
+        if !random.once_in(6) {
+            *first &= 0x1F;
+        }
+    }
+    octets
+}
+
+/// The seven fields of a space packet's header, at times past their range.
+pub fn space_numbers(random: &mut Random) -> [u64; SPACE_HEADER] {
+    let ranges: [u64; SPACE_HEADER] = [1, 2, 2, 1 << 11, 1 << 2, 1 << 14, 1 << 16];
+    let mut numbers = ranges.map(|range| {
+        let any = random.any() % range;
+        random.pick(&[0, range - 1, any, any])
+    });
+    if random.once_in(3) {
+        let place = random.within(0, SPACE_HEADER - 1);
+        let huge = random.pick(&[255, 256, 65_535, 65_536, 1 << 32, u64::MAX]);
+        numbers[place] = random.pick(&[ranges[place], ranges[place] + 1, huge]);
+    }
+    numbers
 }
 
 /// Frames, and the packets they carry, with the idle packets of flushes.

@@ -14,10 +14,12 @@ pub struct Order {
     pub refusals: &'static [u64],
 }
 
-pub const ORDERS: [Order; 12] = [
+pub const ORDERS: [Order; 14] = [
     Order { call: "read_header", refusals: &[1] },
     Order { call: "wrap", refusals: &[1, 8, 2] },
     Order { call: "unwrap", refusals: &[1, 8, 6] },
+    Order { call: "read_space", refusals: &[8] },
+    Order { call: "write_space", refusals: &[1, 2] },
     Order { call: "mux_put", refusals: &[1, 2, 10, 9, 8] },
     Order { call: "mux_flush", refusals: &[1, 2, 10, 9] },
     Order { call: "mux_idle", refusals: &[1, 2, 10, 9] },
@@ -32,7 +34,7 @@ pub const ORDERS: [Order; 12] = [
 /// The arguments of any of the calls.
 #[derive(Clone, Debug, PartialEq, Eq)]
 pub struct Arguments {
-    /// Settings; or a limit, a protocol and an extension.
+    /// Settings; or a limit, a protocol and an extension; or a space packet's fields.
     pub numbers: Vec<u64>,
     pub record: Vec<u64>,
     /// What is only read: a frame, a packet, data or bits.
@@ -53,6 +55,8 @@ pub fn arguments(call: &str, refusals: &[u64]) -> Arguments {
         "read_header" => (vec![64, 0, 0], vec![], packet, vec![], calls::HEADER),
         "wrap" => (vec![64, 2, 0], vec![], vec![0xA1; 5], vec![0; 7], calls::WRAPPED),
         "unwrap" => (vec![64, 0, 0], vec![], packet, vec![], calls::UNWRAPPED),
+        "read_space" => (vec![], vec![], vec![0, 5, 0xC0, 0, 0, 1], vec![], calls::SPACE_READ),
+        "write_space" => (vec![0, 0, 0, 5, 3, 0, 1], vec![], vec![], vec![0; 6], 0),
         "mux_put" => (channel, vec![5, 0, 2_047, 0], packet, vec![0; 18], calls::PUT),
         "mux_flush" => (channel, vec![5, 0, 2_047, 0], vec![], vec![0; 18], calls::FLUSH),
         "mux_idle" => (channel, vec![5, 0, 2_047, 0], vec![], vec![0; 18], 0),
@@ -77,6 +81,7 @@ fn change(call: &str, refusal: u64, arguments: &mut Arguments) {
     match (refusal, call) {
         (1, "read_header" | "unwrap") => numbers[0] = 6,
         (1, "wrap") => numbers[1] = 0,
+        (1, "write_space") => numbers[0] = 1,
         (1, _) => numbers[1] = 63,
         (2, _) => {
             buffer.pop();
@@ -98,6 +103,7 @@ fn change(call: &str, refusal: u64, arguments: &mut Arguments) {
         (7, "extractor_enter") => octets[7] = 10,
         (7, _) => octets[7] = 79,
         (8, "mux_put" | "unwrap") => octets.push(0),
+        (8, "read_space") => octets[0] = 0x20,
         (8, _) => octets.clear(),
         _ => panic!("{call} never gives {refusal}"),
     }
@@ -110,6 +116,8 @@ pub fn make(calls: &dyn Calls, call: &str, arguments: &mut Arguments) -> u64 {
         "read_header" => calls.read_header(numbers[0], octets, answer),
         "wrap" => calls.wrap(numbers[0], numbers[1], numbers[2], octets, buffer, answer),
         "unwrap" => calls.unwrap(numbers[0], octets, answer),
+        "read_space" => calls.read_space(octets, answer),
+        "write_space" => calls.write_space(numbers, buffer),
         "mux_put" => calls.mux_put(numbers, record, octets, buffer, answer),
         "mux_flush" => calls.mux_flush(numbers, record, buffer, answer),
         "mux_idle" => calls.mux_idle(numbers, record, buffer),

@@ -11,6 +11,7 @@ pub mod judge;
 pub mod multiplexer;
 pub mod packet;
 pub mod runfile;
+pub mod space;
 pub mod wrap;
 
 /// Why a call was refused.

@@ -126,7 +126,8 @@ pub fn session(first: &dyn Calls, second: &dyn Calls, seed: u64) -> Result<Tally
     let mut random = Random::new(seed);
     let random = &mut random;
     match random.within(1, 100) {
-        1..=10 => headers(&mut pair, random),
+        1..=7 => headers(&mut pair, random),
+        8..=10 => space_headers(&mut pair, random),
         11..=20 => wrapping(&mut pair, random),
         21..=38 => multiplexing(&mut pair, random),
         39..=68 => extracting(&mut pair, random),
@@ -190,6 +191,24 @@ fn headers(pair: &mut Pair, random: &mut Random) -> Result<(), Difference> {
         if refusal == 0 {
             pair.note("header found", lent.answer[0]);
         }
+    }
+    Ok(())
+}
+
+fn space_headers(pair: &mut Pair, random: &mut Random) -> Result<(), Difference> {
+    for _ in 0..20 {
+        let octets = generate::space_front(random);
+        let answer = answer(random, calls::SPACE_READ);
+        let mut lent = Lent { record: vec![], buffer: vec![], answer };
+        pair.both("read_space", &[], &octets, &mut lent, |calls, lent| {
+            calls.read_space(&octets, &mut lent.answer)
+        })?;
+        let header = generate::space_numbers(random);
+        let size = room(random, 6);
+        let mut lent = Lent { record: vec![], buffer: random.octets(size), answer: vec![] };
+        pair.both("write_space", &header, &[], &mut lent, |calls, lent| {
+            calls.write_space(&header, &mut lent.buffer)
+        })?;
     }
     Ok(())
 }
@@ -685,6 +704,16 @@ fn short_arrays(pair: &mut Pair, random: &mut Random) -> Result<(), Difference> 
         let (_, mut lent) = all(random, &channel, &[0], calls::UNWRAPPED);
         pair.both("unwrap", &[limit], &packet, &mut lent, |calls, lent| {
             calls.unwrap(limit, &packet, &mut lent.answer)
+        })?;
+
+        let (_, mut lent) = all(random, &channel, &[0], calls::SPACE_READ);
+        pair.both("read_space", &[], &packet, &mut lent, |calls, lent| {
+            calls.read_space(&packet, &mut lent.answer)
+        })?;
+        let (header, mut lent) = all(random, &[0, 0, 0, 5, 3, 0, 1], &[0], 0);
+        lent.buffer = frame.clone();
+        pair.both("write_space", &header, &[], &mut lent, |calls, lent| {
+            calls.write_space(&header, &mut lent.buffer)
         })?;
 
         let (numbers, mut lent) = all(random, &channel, &[0, 0, 2_047, 0], calls::PUT);

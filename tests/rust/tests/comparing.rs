@@ -105,6 +105,18 @@ impl Calls for Impostor {
         })
     }
 
+    fn read_space(&self, octets: &[u8], answer: &mut [u64]) -> u64 {
+        self.made("read_space", &mut [], &mut [], answer, |_, _, answer| {
+            Reference.read_space(octets, answer)
+        })
+    }
+
+    fn write_space(&self, header: &[u64], octets: &mut [u8]) -> u64 {
+        self.made("write_space", &mut [], octets, &mut [], |_, octets, _| {
+            Reference.write_space(header, octets)
+        })
+    }
+
     fn mux_put(
         &self,
         settings: &[u64],
@@ -334,6 +346,26 @@ fn a_refusal_that_leaves_its_answer() {
         }
     });
     assert_eq!(call, "unwrap");
+}
+
+#[test]
+fn a_space_header_with_type_and_secondary_header_swapped() {
+    let call = seen(|_, _, outcome| {
+        if outcome.call == "read_space" && *outcome.refusal == 0 {
+            outcome.answer.swap(2, 3);
+        }
+    });
+    assert_eq!(call, "read_space");
+}
+
+#[test]
+fn a_space_header_that_is_not_written() {
+    let call = seen(|_, lent, outcome| {
+        if outcome.call == "write_space" {
+            outcome.buffer.copy_from_slice(lent);
+        }
+    });
+    assert_eq!(call, "write_space");
 }
 
 #[test]

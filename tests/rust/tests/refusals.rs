@@ -4,7 +4,7 @@ use itzahuemo_reference::calls::{Calls, Reference};
 use itzahuemo_reference::orders::{arguments, make, ORDERS};
 use itzahuemo_reference::reference::bitstream::{self, Reader, Writer};
 use itzahuemo_reference::reference::frame::Settings;
-use itzahuemo_reference::reference::packet::{read_header, write_space_header, SpaceFields};
+use itzahuemo_reference::reference::packet::read_header;
 use itzahuemo_reference::reference::wrap::{unwrap, wrap};
 use itzahuemo_reference::reference::{extractor, judge, multiplexer, Refusal};
 
@@ -117,25 +117,6 @@ fn unwrapping() {
     assert_eq!(held(&[0xE9, 0x02, 0]), Err(Refusal::Packet));
     assert_eq!(held(&[0xEA, 0x01, 0x00]), Err(Refusal::Packet));
     assert_eq!(held(&[0x00, 0x05, 0xC0, 0x00, 0x00, 0x00, 7]), Err(Refusal::Packet));
-}
-
-#[test]
-fn space_headers() {
-    let fields =
-        SpaceFields { packet_type: 1, secondary: 1, apid: 2, flags: 1, sequence: 4, length: 0 };
-    let mut out = [0x77; 7];
-    assert_eq!(write_space_header(&fields, &mut out), Ok(()));
-    assert_eq!(out, [0x18, 0x02, 0x40, 0x04, 0x00, 0x00, 0x77]);
-    assert_eq!(write_space_header(&fields, &mut out[..5]), Err(Refusal::Room));
-    for wrong in [
-        SpaceFields { packet_type: 2, ..fields },
-        SpaceFields { secondary: 2, ..fields },
-        SpaceFields { apid: 2_048, ..fields },
-        SpaceFields { flags: 4, ..fields },
-        SpaceFields { sequence: 16_384, ..fields },
-    ] {
-        assert_eq!(write_space_header(&wrong, &mut out), Err(Refusal::Range));
-    }
 }
 
 /// What the multiplexer's flush makes of a record: refusal 10 or not.

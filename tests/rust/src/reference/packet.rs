@@ -107,35 +107,3 @@ pub(crate) fn well_formed(limit: usize, packet: &[u8]) -> Option<Header> {
         _ => None,
     }
 }
-
-/// The fields of a space packet's header behind its version.
-#[derive(Clone, Copy, Debug, PartialEq, Eq)]
-pub struct SpaceFields {
-    pub packet_type: u8,
-    pub secondary: u8,
-    pub apid: u16,
-    pub flags: u8,
-    pub sequence: u16,
-    /// The length field: seven less than the total.
-    pub length: u16,
-}
-
-/// Writes a space packet's header to the front of `out`. Checks: 1, 2.
-pub fn write_space_header(fields: &SpaceFields, out: &mut [u8]) -> Result<(), Refusal> {
-    require(
-        fields.packet_type <= 1
-            && fields.secondary <= 1
-            && fields.apid <= 2_047
-            && fields.flags <= 3
-            && fields.sequence <= 16_383,
-        Refusal::Range,
-    )?;
-    require(out.len() >= 6, Refusal::Room)?;
-    let first =
-        u16::from(fields.packet_type) << 12 | u16::from(fields.secondary) << 11 | fields.apid;
-    let second = u16::from(fields.flags) << 14 | fields.sequence;
-    out[0..2].copy_from_slice(&first.to_be_bytes());
-    out[2..4].copy_from_slice(&second.to_be_bytes());
-    out[4..6].copy_from_slice(&fields.length.to_be_bytes());
-    Ok(())
-}
