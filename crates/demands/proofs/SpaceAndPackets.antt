@@ -3,6 +3,7 @@
 use Prim.Native.Nat.{ℕ, _+_, _*_, _/_, _%_, _^_, _≤_, _<_}
 use mathlib.Core.Path.{_≡_, refl, sym, ap, _∙_}
 use mathlib.Core.List.{List}
+use mathlib.Core.Logic.{⊎-elim}
 use mathlib.Core.Bool.{Bool, true, false}
 use native.Mathlib.Nat.{div-one}
 use native.Mathlib.Omega.{arith}
@@ -11,13 +12,15 @@ use lib.Pow.{shr-shr}
 use lib.ListN.{length, take, drop, getD}
 use lib.Dec.{ltb, eqb}
 use borrow.Author.Tests.{le-ltb}
-use Rattle.octets.specs.Basics.{pick, number, number-at, field}
+use Rattle.octets.specs.Basics.{pick, number, number-at, field, first}
+use Rattle.octets.proofs.Choices.{apart}
 use Rattle.octets.proofs.Numbers.{Octets, run-lt, run-join, number-within, one-octet}
-use Rattle.packets.specs.Packet.{damaged, whole, look, counted, sized, packet-version, apid, key-of, is-idle, size-of}
+use Rattle.octets.proofs.Tests.{test}
+use Rattle.packets.specs.Packet.{Look, more, damaged, whole, limit-in-range, look, counted, sized, packet-version, apid, key-of, is-idle, size-of}
 use Rattle.packets.specs.Header.{bare, told, reading}
-use Rattle.packets.proofs.Looks.{look-space}
-use Rattle.space.specs.Space.{space-fields, space-reading}
-use Rattle.space.proofs.Spaces.{space-accepted}
+use Rattle.packets.proofs.Looks.{look-space, look-kind}
+use Rattle.space.specs.Space.{space-fields, space-read-rows, space-reading}
+use Rattle.space.proofs.Spaces.{space-accepted, space-accepts}
 use Rattle.demands.specs.SpaceAndPackets.{as-packet, SameHeader}
 
 -- a word of two parts: a field of the upper part, and the whole lower part
@@ -70,12 +73,30 @@ sees : (limit len stated : ℕ) → 6 ≤ len → counted limit len 6 (stated + 
 unfolding counted sized
 sees limit len stated k = rw (le-ltb len 6 k, le-ltb (stated + 7) 6 (omega arith)) refl
 
-pub same-header : SameHeader
+telling : (limit : ℕ) (os : List ℕ) → Octets os → limit-in-range limit ≡ true → first (space-read-rows os) ≡ 0
+    → reading limit os ≡ as-packet limit (space-reading os .header)
 unfolding reading space-reading space-fields as-packet
-same-header limit os o ok accepted =
+telling limit os o ok accepted =
     let a = space-accepted os accepted in
     let v : packet-version (getD os 0 0) ≡ 0 = sym (same-version os o (a .0)) ∙ a .1 in
     let total : ℕ = number-at 2 4 os + 7 in
     let seen : look limit os ≡ pick (ltb limit total) damaged (whole total) =
     look-space limit os (λ none. omega arith) v ∙ sees limit (length os) (number-at 2 4 os) (a .0) in
     rw (ok, accepted, same-apid os o (a .0), same-length os o (a .0)) (ap (told os) seen ∙ tells os total v (ltb limit total))
+
+-- a whole header of version 000 has six octets
+kind-read : (limit : ℕ) (os : List ℕ) → Octets os → (k : Look) → look limit os ≡ k → told os k .outcome ≡ 3 → told os k .version ≡ 0
+    → first (space-read-rows os) ≡ 0
+unfolding told
+kind-read limit os o more e found v = absurd (omega arith)
+kind-read limit os o damaged e found v = absurd (omega arith)
+kind-read limit os o (whole total) e found v =
+    ⊎-elim (λ k. space-accepts os (k .1) (same-version os o (k .1) ∙ v)) (λ k. absurd (omega arith)) (look-kind limit os e)
+
+reads : (limit : ℕ) (os : List ℕ) → Octets os → reading limit os .outcome ≡ 3 → reading limit os .version ≡ 0 → first (space-read-rows os) ≡ 0
+unfolding reading
+reads limit os o found v =
+    test (limit-in-range limit) (λ t. kind-read limit os o (look limit os) refl (rw t at found) (rw t at v)) (λ t. apart (cc))
+
+pub same-header : SameHeader
+same-header = record { told = telling; read = reads }

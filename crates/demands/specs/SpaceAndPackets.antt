@@ -18,7 +18,8 @@ as-packet limit h =
     pick (ltb limit total) (bare 0 2)
     (record { refusal = 0; outcome = 3; version = 0; key = h .apid; idle = eqb (h .apid) 2047; size = 6; total = total })
 
--- octets that are read as a space packet's header, at any limit in range
-abbrev pub SameHeader : Type 0
-SameHeader = (limit : ℕ) (os : List ℕ) → Octets os → limit-in-range limit ≡ true → first (space-read-rows os) ≡ 0
-    → reading limit os ≡ as-packet limit (space-reading os .header)
+-- octets that are read as a space packet's header, at any limit in range; and those in which the header reader finds a space packet are so read
+pub record SameHeader : Type 0 where
+  pub told : (limit : ℕ) (os : List ℕ) → Octets os → limit-in-range limit ≡ true → first (space-read-rows os) ≡ 0
+      → reading limit os ≡ as-packet limit (space-reading os .header)
+  pub read : (limit : ℕ) (os : List ℕ) → Octets os → reading limit os .outcome ≡ 3 → reading limit os .version ≡ 0 → first (space-read-rows os) ≡ 0

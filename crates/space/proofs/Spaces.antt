@@ -208,9 +208,9 @@ space-accepted os e =
     (ltb-false (length os) 6 (a .0), eqb-true _ 0 (not-false _ (a .1)))
 
 -- and it is all that is asked of them
-accepts : (os : List ℕ) → 6 ≤ length os → read version-at (number-at 6 0 os) ≡ 0 → first (space-read-rows os) ≡ 0
+pub space-accepts : (os : List ℕ) → 6 ≤ length os → read version-at (number-at 6 0 os) ≡ 0 → first (space-read-rows os) ≡ 0
 unfolding space-read-rows first
-accepts os k v = rw (le-ltb (length os) 6 k, eq-eqb (read version-at (number-at 6 0 os)) 0 v) refl
+space-accepts os k v = rw (le-ltb (length os) 6 k, eq-eqb (read version-at (number-at 6 0 os)) 0 v) refl
 
 -- a header that is written is read back
 pub space-written-read : (h : SpaceHeader) (output : List ℕ) → first (space-rows h (length output)) ≡ 0
@@ -229,7 +229,7 @@ space-written-read h output e =
     let back : space-fields (space-word h) ≡ h = fields-word h (ranged h (k .0)) in
     let version : read version-at (number-at 6 0 (over output 0 os)) ≡ 0 =
     ap (read version-at) word ∙ ap (λ (h : SpaceHeader). h .version) back ∙ version-zero h (k .0) in
-    rw (e, accepts (over output 0 os) (omega arith) version, word, back) refl
+    rw (e, space-accepts (over output 0 os) (omega arith) version, word, back) refl
 
 -- six octets that are read are written back
 pub space-read-written : (os : List ℕ) → AllOctets os → first (space-read-rows os) ≡ 0
