@@ -40,19 +40,18 @@ ranges = record {
 frame-read : frames.Read
 unfolding computing.frames
 frame-read = record {
+  each = refl;
+  each-bits = refl;
   versions = refl;
-  spacecraft = refl;
-  channels = refl;
   others = refl;
-  counts = refl;
   signals = refl;
-  spares = refl;
-  pointers = refl;
-  unused = refl;
-  bit-spares = refl;
-  bit-pointers = refl;
-  bit-unused = refl;
+  bit-versions = refl;
   bit-others = refl;
+  bit-signals = refl;
+  spares = refl;
+  bit-spares = refl;
+  unused = refl;
+  bit-unused = refl;
   order = refl;
   bit-order = refl;
   lengths = refl;
@@ -62,17 +61,7 @@ frame-read = record {
 
 frame-written : frames.Written
 unfolding computing.frames
-frame-written = record {
-  none = refl;
-  spacecraft = refl;
-  channels = refl;
-  counts = refl;
-  pointers = refl;
-  bit-none = refl;
-  bit-pointers = refl;
-  refusals = refl;
-  bit-refusals = refl;
-}
+frame-written = record { each = refl; each-bits = refl; highest = refl; refusals = refl; bit-refusals = refl }
 
 wheel : frames.Wheel
 unfolding computing.frames
