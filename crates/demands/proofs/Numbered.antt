@@ -188,7 +188,15 @@ stepped = record {
 
 judged : judging.Faults
 unfolding computing.judging
-judged = record { sound = refl; holding = refl; refused = refl; next = refl; later = refl; replayed = refl }
+judged = record {
+  sound = refl;
+  holding = refl;
+  refused = refl;
+  next = refl;
+  later = refl;
+  held = refl;
+  replayed = refl;
+}
 
 closed : judging.Verdicts
 unfolding computing.judging

@@ -9,6 +9,7 @@ use Rattle.judge.specs.Calls.{FrameSaid, frame-call, CloseSaid, close-call}
 use Rattle.judge.specs.declared.Judge.{Judge}
 use Rattle.judge.specs.declared.Judge.the-variants.{Open, Sound, Faulty}
 use Rattle.demands.specs.Numbers.Samples.{small, broken, frame, lent, ten}
+use Rattle.demands.specs.Numbers.Stepping.{second}
 
 abbrev pub refuses : Settings → List ℕ → Judge → ℕ
 refuses s store j = frame-call s store j (frame 0 0 0 ten) .refusal
@@ -76,6 +77,13 @@ pub record Faults : Type 0 where
   -- frames missing; and later frames change the tally alone
   pub next : map judges-next (frame 1 0 0 ten ∷ frame 2 0 0 ten ∷ frame 0 0 0 ten ∷ []) ≡ Sound 2 1 0 ∷ Faulty 2 1 ∷ Faulty 2 1 ∷ []
   pub later : frame-call small (lent 12) (Faulty 5 2) (frame 1 0 0 ten) ≡ leaves (Faulty 6 2) (lent 12)
+  -- with octets held: the packet is completed in the store, also where damage comes after it; a pointer that differs changes nothing
+  pub held : map (λ f. frame-call small (0xE9 ∷ 0x05 ∷ lent 10) (Sound 1 0 2) f)
+      (frame 1 0 3 second ∷ frame 1 0 3 (0x11 ∷ 0x22 ∷ 0x33 ∷ replicate 7 0x20) ∷ frame 1 0 2 second ∷ [])
+      ≡ leaves (Sound 2 1 0) (0xE9 ∷ 0x05 ∷ 0x11 ∷ 0x22 ∷ 0x33 ∷ lent 7)
+      ∷ leaves (Faulty 2 1) (0xE9 ∷ 0x05 ∷ 0x11 ∷ 0x22 ∷ 0x33 ∷ lent 7)
+      ∷ leaves (Faulty 2 1) (0xE9 ∷ 0x05 ∷ lent 10)
+      ∷ []
   -- the replay flag is free
   pub replayed : judges (0x50 ∷ 0x83 ∷ 0 ∷ 0 ∷ 7 ∷ 0x80 ∷ 0 ∷ 0 ∷ ten) ≡ Sound 1 7 0
 
