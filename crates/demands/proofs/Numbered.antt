@@ -1,7 +1,7 @@
 -- Document 01's numbers and layouts hold, by computing.
 -- Assumes nothing.
 use mathlib.Core.Path.{refl}
-use Rattle.demands.specs.Numbers.{Layouts, Refusals, Outcomes, Numbers}
+use Rattle.demands.specs.Numbers.{Numbers}
 use Rattle.demands.specs.Numbers.Ranges.{Edges}
 use Rattle.demands.specs.Numbers.FrameFields as frames
 use Rattle.demands.specs.Numbers.PacketFields.{SpacePackets, EncapsulationPackets}

@@ -2,22 +2,22 @@
 use Prim.Native.Nat.{ℕ}
 use mathlib.Core.Path.{_≡_}
 use mathlib.Core.List.{List, [], _∷_, map}
-use mathlib.Core.Bool.{Bool, true, false}
-use Rattle.packets.specs.Header.{Reading, answer}
-use Rattle.packets.specs.Wrap.{Wrapping, wraps, Unwrapping, unwraps}
+use mathlib.Core.Bool.{true, false}
+use Rattle.packets.specs.Header.{answer}
+use Rattle.packets.specs.Wrap.{wraps, unwraps}
 use Rattle.packets.specs.declared.Kind.the-variants.{Space, Encapsulation}
 use Rattle.packets.specs.declared.Header.{Header}
 use Rattle.packets.specs.declared.wrapping.Wrapped.{Wrapped}
 use Rattle.packets.specs.declared.wrapping.Unwrapped.{Unwrapped}
-use Rattle.space.specs.Space.{SpaceReading, space-reads}
+use Rattle.space.specs.Space.{space-reads}
 use Rattle.space.specs.declared.SpaceRead.{SpaceRead}
-use Rattle.multiplexer.specs.Calls.{Answer, answers}
+use Rattle.multiplexer.specs.Calls.{answers}
 use Rattle.multiplexer.specs.declared.Reply.{Reply}
 use Rattle.extractor.specs.Records.{shown}
 use Rattle.extractor.specs.Answers.{EnterNumbers, entered-numbers, StepNumbers, found-numbers}
 use Rattle.extractor.specs.declared.Entered.{Entered}
 use Rattle.extractor.specs.declared.Found.{Found}
-use Rattle.judge.specs.Calls.{CloseSaid, close-says}
+use Rattle.judge.specs.Calls.{close-says}
 use Rattle.judge.specs.declared.Closed.{Closed}
 use Rattle.demands.specs.Numbers.Multiplexing.{mux, done}
 use Rattle.demands.specs.Numbers.PacketFields.{whole, bare}

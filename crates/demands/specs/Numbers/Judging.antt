@@ -1,7 +1,7 @@
 -- What the judge is refused for, its limit, what is a fault, and what closing answers.
 use Prim.Native.Nat.{ℕ}
 use mathlib.Core.Path.{_≡_}
-use mathlib.Core.List.{List, [], _∷_, _++_, map}
+use mathlib.Core.List.{List, [], _∷_, map}
 use mathlib.Core.Bool.{Bool, true, false}
 use lib.ListN.{replicate}
 use Rattle.frames.specs.declared.Settings.{Settings}

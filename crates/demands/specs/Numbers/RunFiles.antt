@@ -4,7 +4,7 @@ use mathlib.Core.Path.{_≡_}
 use mathlib.Core.List.{List, [], _∷_, _++_, map}
 use mathlib.Core.Option.{Option, none, some}
 use Rattle.frames.specs.declared.Settings.{Settings}
-use Rattle.runfile.specs.RunFile.{Reading, reading}
+use Rattle.runfile.specs.RunFile.{reading}
 use Rattle.runfile.specs.Steps.{body-length, taken, closed}
 use Rattle.runfile.specs.declared.Reader.{Reader}
 use Rattle.runfile.specs.declared.Reader.the-variants.{Start, Running, Ended, Bad}

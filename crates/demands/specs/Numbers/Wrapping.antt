@@ -1,10 +1,10 @@
 -- Wrapping and unwrapping: refusals, the header that is chosen, and its octets.
 use Prim.Native.Nat.{ℕ, _+_}
 use mathlib.Core.Path.{_≡_}
-use mathlib.Core.List.{List, [], _∷_, _++_, map}
-use mathlib.Core.Bool.{Bool, true, false}
+use mathlib.Core.List.{List, [], _∷_, map}
+use mathlib.Core.Bool.{true, false}
 use lib.ListN.{replicate, take}
-use Rattle.packets.specs.Wrap.{Wrapping, wrapping, Unwrapping, unwrapping, unit-part}
+use Rattle.packets.specs.Wrap.{wrapping, Unwrapping, unwrapping, unit-part}
 use Rattle.packets.specs.declared.wrapping.Unwrapped.{Unwrapped}
 use Rattle.demands.specs.Numbers.Samples.{lent, seven}
 
