@@ -1,4 +1,5 @@
 -- What the rules compute with, crate by crate: to unfold one of these is to unfold all that its line names.
+-- Assumes nothing.
 use Rattle.octets.specs.Basics.{number-from, number, octets, field, join, placed, part, over, first, number-at, laid}
 use Rattle.packets.specs.Packet.{limit-in-range, sized, counted, space, header-length, encapsulation, look, states, well-formed, is-idle, key-of, size-of}
 use Rattle.packets.specs.Header.{told, reading, version-of, answer}
@@ -19,7 +20,7 @@ use Rattle.judge.specs.Judge.{is-fault, faulty-entry}
 use Rattle.judge.specs.Calls.{counts-well, judge-reachable, frame-refusals, close-rows, stepped-through, try-frame, judge-frame, frame-call, judge-close, close-says, closes-with, close-call}
 use Rattle.bitstream.specs.Bitstream.{octets-for, pointer-for, valid-bits, mixed, last-octet, zone-with, writer-reachable, write-rows, frame-with, written, reader-reachable, read-rows, loss-flag, leading-octets}
 use Rattle.bitstream.specs.Bitstream as bits
-use Rattle.runfile.specs.RunFile.{setup-of, fits, stop, with-setup, with-frame, stands, nothing-after, ending, records}
+use Rattle.runfile.specs.RunFile.{setup-of, fits, stop, with-setup, with-frame, stands, nothing-after, ending, records, setup-octets, frame-octets, run-file}
 use Rattle.runfile.specs.RunFile as runfile
 use Rattle.runfile.specs.Steps.{may-follow, body-length, taken, closed}
 
@@ -48,5 +49,5 @@ unfolding frames octets-for pointer-for valid-bits mixed last-octet zone-with wr
 bitstreams = tt
 
 unfoldable pub run-files : Unit {0}
-unfolding frames setup-of fits stop with-setup with-frame stands nothing-after ending records runfile.reading may-follow body-length taken closed
+unfolding frames setup-of fits stop with-setup with-frame stands nothing-after ending records setup-octets frame-octets run-file runfile.reading may-follow body-length taken closed
 run-files = tt

@@ -245,6 +245,7 @@ run-files = record {
   last-frame = refl;
   cut = refl;
   whole = refl;
+  written = refl;
   bad-records = refl;
 }
 

@@ -4,7 +4,7 @@ use mathlib.Core.Path.{_≡_}
 use mathlib.Core.List.{List, [], _∷_, _++_, map}
 use mathlib.Core.Option.{Option, none, some}
 use Rattle.frames.specs.declared.Settings.{Settings}
-use Rattle.runfile.specs.RunFile.{reading}
+use Rattle.runfile.specs.RunFile.{reading, run-file}
 use Rattle.runfile.specs.Steps.{body-length, taken, closed}
 use Rattle.runfile.specs.declared.Reader.{Reader}
 use Rattle.runfile.specs.declared.Reader.the-variants.{Start, Running, Ended, Bad}
@@ -20,6 +20,10 @@ setup = 0x42 ∷ 0x03 ∷ 0x00 ∷ 0x0A ∷ 0x00 ∷ 0x04 ∷ 0x00 ∷ []
 
 abbrev pub running : ℕ → Reader
 running frames = Running (set 66 3 10 1024) frames
+
+-- a run of one frame
+abbrev pub one-frame : List ℕ
+one-frame = 1 ∷ (setup ++ (2 ∷ (lent 18 ++ (3 ∷ []))))
 
 -- what record is bad in a file
 abbrev pub bad : List ℕ → Option ℕ
@@ -39,8 +43,9 @@ pub record Records : Type 0 where
   pub last-frame : map (λ n. taken (running n) 2 (lent 18)) (16777215 ∷ 16777216 ∷ []) ≡ running 16777216 ∷ Bad 16777217 ∷ []
   -- input that ends before a 3 is cut
   pub cut : map closed (Start ∷ running 4 ∷ Ended 4 ∷ Bad 3 ∷ []) ≡ Bad 0 ∷ Bad 5 ∷ Ended 4 ∷ Bad 3 ∷ []
-  -- a whole file, and the number of the record that is bad
-  pub whole : reading (1 ∷ (setup ++ (2 ∷ (lent 18 ++ (3 ∷ []))))) ≡ record { setup = some (set 66 3 10 1024); frames = lent 18 ∷ []; bad = none }
+  -- a whole file, both ways, and the number of the record that is bad
+  pub whole : reading one-frame ≡ record { setup = some (set 66 3 10 1024); frames = lent 18 ∷ []; bad = none }
+  pub written : run-file (set 66 3 10 1024) (lent 18 ∷ []) ≡ one-frame
   pub bad-records : map bad
       ([] ∷ (2 ∷ []) ∷ (1 ∷ setup) ∷ (1 ∷ (setup ++ (2 ∷ lent 17))) ∷ (1 ∷ (setup ++ (4 ∷ []))) ∷ (1 ∷ (setup ++ (3 ∷ []))) ∷ (1 ∷ (setup ++ (3 ∷ 3 ∷ []))) ∷ [])
       ≡ some 0 ∷ some 0 ∷ some 1 ∷ some 1 ∷ some 1 ∷ none ∷ some 2 ∷ []
