@@ -4,12 +4,12 @@ use Rattle.octets.specs.Basics.{number-from, number, octets, field, join, place
 use Rattle.packets.specs.Packet.{limit-in-range, sized, counted, space, header-length, encapsulation, look, states, well-formed, is-idle, key-of, size-of}
 use Rattle.packets.specs.Header.{told, reading, version-of, answer}
 use Rattle.packets.specs.Front.{first-octet, second-octet, front}
-use Rattle.packets.specs.Idle.{idle-header, idle-packet}
+use Rattle.packets.specs.Idle.{idle-header, idle-packet, idle-packet-rows}
 use Rattle.packets.specs.Wrap.{lol-for, wrapped-total, wrapped, wrap-in-range, wrap-rows, wrapping, wraps, extension-of, reserved-of, unwrap-rows, unwrapping, unwraps, run-of, unit-part}
-use Rattle.space.specs.Space.{space-fields, space-word, space-in-range, space-reading, space-reads, space-rows, space-writing}
-use Rattle.frames.specs.Link.{link-in-range, primary, zone-head, header-rows, head-word, headers, count-width, next-count, missing}
-use Rattle.frames.specs.Frame.{in-range, frame-length, zone-of, frame-rows, heading-of, heading, head, head-rows}
-use Rattle.frames.specs.BitFrame.{bits-in-range, bit-frame-length, bit-zone-of, bit-unused, bit-frame-rows, bit-heading, bit-head, bit-head-rows}
+use Rattle.space.specs.Space.{space-fields, space-word, space-in-range, space-read-rows, space-reading, space-reads, space-rows, space-writing}
+use Rattle.frames.specs.Link.{link-in-range, primary, zone-head, header-rows, written-rows, head-word, headers, count-width, next-count, missing}
+use Rattle.frames.specs.Frame.{in-range, frame-length, zone-of, unused, frame-rows, heading-rows, heading-of, heading, head, head-rows}
+use Rattle.frames.specs.BitFrame.{bits-in-range, bit-frame-length, bit-zone-of, bit-unused, bit-frame-rows, bit-heading-rows, bit-heading, bit-head, bit-head-rows}
 use Rattle.multiplexer.specs.Multiplex.{mux-reachable, put-rows, filled-frame, filled-mux, start-now, fits-now, put, flush-rows, flush, idle-rows, idle-frame}
 use Rattle.multiplexer.specs.Calls as multiplexer
 use Rattle.extractor.specs.Extract.{agreed-look, agreed, reason-by, reason-in, lost-since, reason-of, step-of, walked, walk, walk-turns, walk-look, take-in}
@@ -22,14 +22,15 @@ use Rattle.bitstream.specs.Bitstream.{octets-for, pointer-for, valid-bits, mixe
 use Rattle.bitstream.specs.Bitstream as bits
 use Rattle.runfile.specs.RunFile.{setup-of, fits, stop, with-setup, with-frame, stands, nothing-after, ending, records, setup-octets, frame-octets, run-file}
 use Rattle.runfile.specs.RunFile as runfile
-use Rattle.runfile.specs.Steps.{may-follow, body-length, taken, closed}
+use Rattle.runfile.specs.Steps.{next-record, body-length, taken, closed}
+use Rattle.runfile.specs.Steps as run
 
 unfoldable pub packets : Unit {0}
-unfolding number-from number octets field join placed part over first number-at laid limit-in-range sized counted space header-length encapsulation look states well-formed is-idle key-of size-of told reading version-of answer first-octet second-octet front idle-header idle-packet lol-for wrapped-total wrapped wrap-in-range wrap-rows wrapping wraps extension-of reserved-of unwrap-rows unwrapping unwraps run-of unit-part space-fields space-word space-in-range space-reading space-reads space-rows space-writing
+unfolding number-from number octets field join placed part over first number-at laid limit-in-range sized counted space header-length encapsulation look states well-formed is-idle key-of size-of told reading version-of answer first-octet second-octet front idle-header idle-packet idle-packet-rows lol-for wrapped-total wrapped wrap-in-range wrap-rows wrapping wraps extension-of reserved-of unwrap-rows unwrapping unwraps run-of unit-part space-fields space-word space-in-range space-read-rows space-reading space-reads space-rows space-writing
 packets = tt
 
 unfoldable pub frames : Unit {0}
-unfolding packets link-in-range primary zone-head header-rows head-word headers count-width next-count missing in-range frame-length zone-of frame-rows heading-of heading head head-rows bits-in-range bit-frame-length bit-zone-of bit-unused bit-frame-rows bit-heading bit-head bit-head-rows
+unfolding packets link-in-range primary zone-head header-rows written-rows head-word headers count-width next-count missing in-range frame-length zone-of unused frame-rows heading-rows heading-of heading head head-rows bits-in-range bit-frame-length bit-zone-of bit-unused bit-frame-rows bit-heading-rows bit-heading bit-head bit-head-rows
 frames = tt
 
 unfoldable pub multiplexing : Unit {0}
@@ -49,5 +50,5 @@ unfolding frames octets-for pointer-for valid-bits mixed last-octet zone-with wr
 bitstreams = tt
 
 unfoldable pub run-files : Unit {0}
-unfolding frames setup-of fits stop with-setup with-frame stands nothing-after ending records setup-octets frame-octets run-file runfile.reading may-follow body-length taken closed
+unfolding frames setup-of fits stop with-setup with-frame stands nothing-after ending records setup-octets frame-octets run-file runfile.reading run.reachable next-record body-length taken closed
 run-files = tt

@@ -10,6 +10,7 @@ use Rattle.demands.proofs.calls.Extractor.{of-extractor}
 use Rattle.demands.proofs.calls.Judge.{of-judge}
 use Rattle.demands.proofs.calls.Bitstream.{of-bitstream}
 use Rattle.demands.proofs.calls.RunFile.{of-runfile}
+use Rattle.demands.proofs.calls.Exports.{of-exports}
 
 pub demand-1 : Demand1
 demand-1 = record {
@@ -22,4 +23,5 @@ demand-1 = record {
   judge = of-judge;
   bitstream = of-bitstream;
   runfile = of-runfile;
+  exports = of-exports;
 }

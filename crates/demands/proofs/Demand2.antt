@@ -3,8 +3,7 @@
 use Rattle.octets.proofs.Fields.{placed-read, placed-below, placed-above}
 use Rattle.packets.proofs.Rounds.{round-trip}
 use Rattle.space.proofs.Spaces.{space-written-read, space-read-written}
-use Rattle.frames.proofs.Settled.{settled}
-use Rattle.frames.proofs.ReadBack.{count-read, pointer-read, frame-again}
+use Rattle.frames.proofs.Theorems.{headers-read}
 use Rattle.bitstream.proofs.ReadBack.{read-back, has-bits}
 use Rattle.extractor.proofs.Theorems.{says-the-rules, spends-in-time}
 use Rattle.runfile.proofs.Theorems.{reads-run-files}
@@ -16,11 +15,7 @@ use Rattle.demands.proofs.SpaceAndPackets.{same-header}
 pub demand-2 : Demand2
 demand-2 = record {
   fields = record { read = placed-read; below = placed-below; above = placed-above };
-  headers-read = record {
-    count-back = λ s c p f ok wheel short headed. count-read s (settled s ok) c p wheel short f headed;
-    pointer-back = λ s c p f ok wheel short headed. pointer-read s (settled s ok) c p wheel short f headed;
-    again = frame-again;
-  };
+  headers-read = headers-read;
   packets-read = record { wrapped = round-trip; space = space-written-read; space-again = space-read-written; space-same = same-header };
   bits-read = record { written-read = read-back; read-has = λ s x f o done. has-bits s x f o done };
   orders = run-delivers;

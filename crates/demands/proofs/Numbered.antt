@@ -4,7 +4,7 @@ use mathlib.Core.Path.{refl}
 use Rattle.demands.specs.Numbers.{Numbers}
 use Rattle.demands.specs.Numbers.Ranges.{Edges}
 use Rattle.demands.specs.Numbers.FrameFields as frames
-use Rattle.demands.specs.Numbers.PacketFields.{SpacePackets, EncapsulationPackets}
+use Rattle.demands.specs.Numbers.PacketFields.{SpacePackets, EncapsulationPackets, IdlePackets}
 use Rattle.demands.specs.Numbers.SpaceFields as space
 use Rattle.demands.specs.Numbers.Wrapping as wrapping
 use Rattle.demands.specs.Numbers.Multiplexing as multiplexing
@@ -22,6 +22,8 @@ unfolding computing.multiplexing computing.judging computing.bitstreams
 ranges = record {
   settings-in = refl;
   settings-out = refl;
+  heads-in = refl;
+  heads-out = refl;
   tests = refl;
   tests-out = refl;
   bits-in = refl;
@@ -35,6 +37,8 @@ ranges = record {
   most-bits = refl;
   counts = refl;
   bit-counts = refl;
+  pointers = refl;
+  bit-pointers = refl;
 }
 
 frame-read : frames.Read
@@ -88,7 +92,7 @@ encapsulation-packets = record {
 
 space-headers : space.Headers
 unfolding computing.packets
-space-headers = record { read = refl; written = refl; too-great = refl; no-room = refl }
+space-headers = record { read = refl; written = refl; too-great = refl; no-room = refl; versions = refl; not-read = refl }
 
 multiplexer : multiplexing.Refusals
 unfolding computing.multiplexing
@@ -132,6 +136,10 @@ judge = record {
 wrap : wrapping.Refusals
 unfolding computing.packets
 wrap = record { wrap = refl; unwrap = refl; wrap-order = refl; unwrap-order = refl }
+
+write-idle : IdlePackets
+unfolding computing.packets
+write-idle = record { lengths = refl; rooms = refl; order = refl }
 
 bitstream : bits.Refusals
 unfolding computing.bitstreams
@@ -287,6 +295,7 @@ numbers = record {
     step = step;
     judge = judge;
     wrap = wrap;
+    write-idle = write-idle;
     bitstream = bitstream;
   };
   outcomes = record {

@@ -11,11 +11,14 @@ use Rattle.octets.specs.Basics.{pick, Row, row, first}
 use Rattle.octets.proofs.Choices.{refusal-kept}
 use Rattle.packets.specs.Packet.{limit-in-range, look}
 use Rattle.packets.specs.Header.{bare, told}
+use Rattle.packets.specs.Idle.{idle-packet-rows}
 use Rattle.packets.specs.Wrap.{wrapped-total, wrap-rows, Wrapping, wrapping, unwrap-rows, Unwrapping, unwrapping}
-use Rattle.space.specs.Space.{space-rows, space-writing}
-use Rattle.frames.specs.Link.{header-rows}
-use Rattle.frames.specs.Frame.{frame-rows, head-rows}
-use Rattle.frames.specs.BitFrame.{bit-frame-rows, bit-head-rows}
+use Rattle.space.specs.Space.{SpaceReading, space-read-rows, space-reading, space-reads, space-rows, space-writing}
+use Rattle.space.specs.declared.SpaceRead.{SpaceRead}
+use Rattle.frames.specs.Link.{header-rows, written-rows}
+use Rattle.frames.specs.Frame.{count, replay, pointer, frame-rows, heading-rows, heading-of, heading, head-rows}
+use Rattle.frames.specs.BitFrame.{bit-count, bit-replay, bit-pointer, bit-frame-rows, bit-heading-rows, bit-heading, bit-head-rows}
+use Rattle.frames.specs.declared.Heading.{Heading}
 use Rattle.frames.specs.declared.Settings.{Settings}
 use Rattle.multiplexer.specs.Multiplex.{put-rows, flush-rows, idle-rows}
 use Rattle.multiplexer.specs.Calls.{Call, to-put, to-flush, to-idle, call-rows, call, refusing, doing, answer}
@@ -77,8 +80,14 @@ unfolding answer
 called s m c frame =
     among (λ a. a .refusal) (call-rows s m c (length frame)) (doing (call s m c frame)) (λ n. refusing n m frame) refl refl (λ n. refl)
 
+headed : (rows : List Row) (c r p : ℕ) → Among (heading-of (first rows) c r p .refusal) (0 ∷ numbers rows)
+unfolding heading-of
+headed rows c r p =
+    among (λ (h : Heading). h .refusal) rows (record { refusal = 0; count = c; replay = r; pointer = p })
+    (λ n. record { refusal = n; count = 0; replay = 0; pointer = 0 }) refl refl (λ n. refl)
+
 pub only-these : OnlyThese
-unfolding put-rows flush-rows idle-rows enter-rows frame-rows header-rows step-rows frame-refusals close-rows wrap-rows unwrap-rows space-rows write-rows read-rows bit-frame-rows head-rows bit-head-rows enter-answer step-answer step-call found-numbers frame-call close-call close-says wrapping unwrapping space-writing written reading
+unfolding put-rows flush-rows idle-rows enter-rows frame-rows header-rows step-rows frame-refusals close-rows wrap-rows unwrap-rows space-rows write-rows read-rows bit-frame-rows heading-rows bit-heading-rows written-rows head-rows bit-head-rows heading bit-heading idle-packet-rows space-read-rows space-reading space-reads enter-answer step-answer step-call found-numbers frame-call close-call close-says wrapping unwrapping space-writing written reading
 only-these = record {
   put = λ s m p frame. called s m (to-put p) frame;
   flush = λ s m frame. called s m to-flush frame;
@@ -108,6 +117,9 @@ only-these = record {
   header = λ limit os.
       among (λ a. a .refusal) (row 1 (not (limit-in-range limit)) ∷ []) (told os (look limit os)) (λ n. bare n 0)
       (reading-by-row limit os) (told-unrefused os (look limit os)) (λ n. refl);
+  write-idle = λ r room. first-among (idle-packet-rows r room);
+  read-space = λ os.
+      among (λ (a : SpaceReading). a .refusal) (space-read-rows os) _ (λ n. space-reads (SpaceRead.Refused n)) refl refl (λ n. refl);
   write-space = λ h output. first-among (space-rows h (length output));
   write-bits = λ s w bits n frame.
       among (λ (a : Wrote). a .said .refusal) (write-rows s w n (length bits) (length frame)) _ (λ r. wrote (record { refusal = r; writer = w }) frame)
@@ -115,6 +127,8 @@ only-these = record {
   read-bits = λ s x f.
       among (λ (a : Reading). a .refusal) (read-rows s x f) _
       (λ n. record { refusal = n; count = 0; replay = 0; bits = 0; lost = false; reader = x }) refl refl (λ n. refl);
+  read-head = λ s f. headed (heading-rows s f) (count s f) (replay s f) (pointer s f);
+  read-bit-head = λ s f. headed (bit-heading-rows s f) (bit-count s f) (bit-replay s f) (bit-pointer s f);
   write-head = λ s c p buffer. first-among (head-rows s c p buffer);
   write-bit-head = λ s c p buffer. first-among (bit-head-rows s c p buffer);
 }

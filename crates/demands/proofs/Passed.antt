@@ -6,7 +6,7 @@ use Rattle.packets.specs.Packet.{limit-in-range, look, space, encapsulation, co
 use Rattle.packets.specs.Header.{told, reading}
 use Rattle.packets.proofs.Passes as packets
 use Rattle.frames.specs.Link.{primary, zone-head, header-rows, count-width, missing}
-use Rattle.frames.specs.Frame.{frame-length, frame-rows, zone-of}
+use Rattle.frames.specs.Frame.{frame-length, unused, frame-rows, zone-of}
 use Rattle.frames.proofs.Passes as frames
 use Rattle.multiplexer.proofs.Passes as multiplexer
 use Rattle.extractor.specs.Extract.{take-in, step-of, reason-of, lost-since, reason-in, reason-by, agreed, agreed-look, walked, walk, walk-turns, walk-look}
@@ -22,7 +22,7 @@ unfolding number-from number octets field part limit-in-range look space encapsu
 pass-1 = record { first-octets = refl; second-octets = refl; space-5-8 = refl; encap-2-5 = refl; idle-7 = refl }
 
 pub table : Table
-unfolding number-from number octets field part first look space encapsulation counted sized header-length is-idle primary zone-head header-rows count-width missing frame-length frame-rows zone-of take-in step-of reason-of lost-since reason-in reason-by agreed agreed-look walked walk walk-turns walk-look is-fault faulty-entry faulty close judged verdict
+unfolding number-from number octets field part first look space encapsulation counted sized header-length is-idle primary zone-head header-rows count-width missing frame-length unused frame-rows zone-of take-in step-of reason-of lost-since reason-in reason-by agreed agreed-look walked walk walk-turns walk-look is-fault faulty-entry faulty close judged verdict
 table = record {
   pass-1 = pass-1;
   passes-1-to-7 = sample-passes;

@@ -12,9 +12,9 @@ use lib.Pow.{shr-shr}
 use lib.ListN.{length, take, drop, getD}
 use lib.Dec.{ltb, eqb}
 use borrow.Author.Tests.{le-ltb}
-use Rattle.octets.specs.Basics.{pick, number, number-at, field, first}
+use Rattle.octets.specs.Basics.{AllOctets, pick, number, number-at, field, first}
 use Rattle.octets.proofs.Choices.{apart}
-use Rattle.octets.proofs.Numbers.{Octets, run-lt, run-join, number-within, one-octet}
+use Rattle.octets.proofs.Numbers.{run-lt, run-join, number-within, one-octet}
 use Rattle.octets.proofs.Tests.{test}
 use Rattle.packets.specs.Packet.{Look, more, damaged, whole, limit-in-range, look, counted, sized, packet-version, apid, key-of, is-idle, size-of}
 use Rattle.packets.specs.Header.{bare, told, reading}
@@ -35,7 +35,7 @@ module _ (high low width : ℕ) (short : low < 2 ^ width) where
   lower = ap (λ (n : ℕ). n % 2 ^ width) (div-one (high * 2 ^ width + low)) ∙ digits-mod high short
 
 -- the fields of the six octets' word, and what the header reader takes from single octets
-module _ (os : List ℕ) (o : Octets os) (k : 6 ≤ length os) where
+module _ (os : List ℕ) (o : AllOctets os) (k : 6 ≤ length os) where
   abbrev word : ℕ
   word = number-at 6 0 os
 
@@ -73,7 +73,7 @@ sees : (limit len stated : ℕ) → 6 ≤ len → counted limit len 6 (stated + 
 unfolding counted sized
 sees limit len stated k = rw (le-ltb len 6 k, le-ltb (stated + 7) 6 (omega arith)) refl
 
-telling : (limit : ℕ) (os : List ℕ) → Octets os → limit-in-range limit ≡ true → first (space-read-rows os) ≡ 0
+telling : (limit : ℕ) (os : List ℕ) → AllOctets os → limit-in-range limit ≡ true → first (space-read-rows os) ≡ 0
     → reading limit os ≡ as-packet limit (space-reading os .header)
 unfolding reading space-reading space-fields as-packet
 telling limit os o ok accepted =
@@ -85,7 +85,7 @@ telling limit os o ok accepted =
     rw (ok, accepted, same-apid os o (a .0), same-length os o (a .0)) (ap (told os) seen ∙ tells os total v (ltb limit total))
 
 -- a whole header of version 000 has six octets
-kind-read : (limit : ℕ) (os : List ℕ) → Octets os → (k : Look) → look limit os ≡ k → told os k .outcome ≡ 3 → told os k .version ≡ 0
+kind-read : (limit : ℕ) (os : List ℕ) → AllOctets os → (k : Look) → look limit os ≡ k → told os k .outcome ≡ 3 → told os k .version ≡ 0
     → first (space-read-rows os) ≡ 0
 unfolding told
 kind-read limit os o more e found v = absurd (omega arith)
@@ -93,7 +93,7 @@ kind-read limit os o damaged e found v = absurd (omega arith)
 kind-read limit os o (whole total) e found v =
     ⊎-elim (λ k. space-accepts os (k .1) (same-version os o (k .1) ∙ v)) (λ k. absurd (omega arith)) (look-kind limit os e)
 
-reads : (limit : ℕ) (os : List ℕ) → Octets os → reading limit os .outcome ≡ 3 → reading limit os .version ≡ 0 → first (space-read-rows os) ≡ 0
+reads : (limit : ℕ) (os : List ℕ) → AllOctets os → reading limit os .outcome ≡ 3 → reading limit os .version ≡ 0 → first (space-read-rows os) ≡ 0
 unfolding reading
 reads limit os o found v =
     test (limit-in-range limit) (λ t. kind-read limit os o (look limit os) refl (rw t at found) (rw t at v)) (λ t. apart (cc))

@@ -4,14 +4,14 @@ use mathlib.Core.Path.{refl}
 use Rattle.octets.specs.Basics.{number-from, number, field, part, first}
 use Rattle.packets.specs.Packet.{look, space, encapsulation, counted, sized, header-length, is-idle}
 use Rattle.frames.specs.Link.{primary, zone-head, header-rows, count-width, next-count, missing}
-use Rattle.frames.specs.Frame.{frame-length, frame-rows, zone-of}
+use Rattle.frames.specs.Frame.{frame-length, unused, frame-rows, zone-of}
 use Rattle.extractor.specs.Extract.{take-in, step-of, reason-of, lost-since, reason-in, reason-by, agreed, agreed-look, walked, walk, walk-turns, walk-look}
 use Rattle.judge.specs.Judge.{is-fault, faulty-entry, faulty, close, judged, verdict}
 use Rattle.demands.specs.Carries.{starts, first-start, LaidFrom, Bears, Rising}
 use Rattle.demands.specs.Weaker.{Weaker}
 
 pub weaker : Weaker
-unfolding number-from number field part first look space encapsulation counted sized header-length is-idle primary zone-head header-rows count-width next-count missing frame-length frame-rows zone-of take-in step-of reason-of lost-since reason-in reason-by agreed agreed-look walked walk walk-turns walk-look is-fault faulty-entry faulty close judged verdict starts first-start LaidFrom Bears Rising
+unfolding number-from number field part first look space encapsulation counted sized header-length is-idle primary zone-head header-rows count-width next-count missing frame-length unused frame-rows zone-of take-in step-of reason-of lost-since reason-in reason-by agreed agreed-look walked walk walk-turns walk-look is-fault faulty-entry faulty close judged verdict starts first-start LaidFrom Bears Rising
 weaker =
     record {
       still = record { bear = ((refl, refl, refl, refl, refl, refl), ((refl, refl, refl, refl, refl, refl), tt)); rises = refl; are-formed = (refl, (refl, tt)); are-laid = (refl, refl, (refl, refl, refl)); verdict-is = refl };

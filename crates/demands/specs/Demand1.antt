@@ -10,6 +10,7 @@ use Rattle.demands.specs.calls.Extractor.{OfExtractor}
 use Rattle.demands.specs.calls.Judge.{OfJudge}
 use Rattle.demands.specs.calls.Bitstream.{OfBitstream}
 use Rattle.demands.specs.calls.RunFile.{OfRunFile}
+use Rattle.demands.specs.calls.Exports.{OfExports}
 
 pub record Demand1 : Type 0 where
   pub octets : OfOctets
@@ -21,3 +22,4 @@ pub record Demand1 : Type 0 where
   pub judge : OfJudge
   pub bitstream : OfBitstream
   pub runfile : OfRunFile
+  pub exports : OfExports

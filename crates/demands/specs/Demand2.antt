@@ -1,18 +1,16 @@
 -- Demand 2: what is written means what document 01 says when it is read, the list, and the events.
 use Prim.Native.Nat.{ℕ, _+_, _%_, _^_, _≤_, _<_}
 use mathlib.Core.Path.{_≡_}
-use mathlib.Core.List.{List, _++_}
+use mathlib.Core.List.{List}
 use mathlib.Core.Bool.{true}
 use lib.ListN.{length, take}
-use Rattle.octets.specs.Basics.{field, placed, first}
-use Rattle.octets.proofs.Numbers.{Octets}
+use Rattle.octets.specs.Basics.{AllOctets, field, placed, first}
 use Rattle.packets.specs.Wrap.{wrapped-total, wrap-rows}
 use Rattle.packets.specs.Wrap as packets
 use Rattle.space.specs.Space.{space-read-rows, space-rows, space-reading, space-writing}
 use Rattle.space.specs.declared.SpaceHeader.{SpaceHeader}
-use Rattle.frames.specs.Link.{zone-at, count-width, headers}
-use Rattle.frames.specs.Frame.{in-range, frame-rows, zone-of, count, replay, pointer, pointer-word, head}
-use Rattle.frames.specs.declared.Settings.{Settings}
+use Rattle.frames.specs.Frame.{count}
+use Rattle.frames.specs.Statements.{HeadersRead}
 use Rattle.frames.specs.BitFrame.{bit-frame-length}
 use Rattle.frames.specs.declared.bits.BitSettings.{BitSettings}
 use Rattle.bitstream.specs.Bitstream.{written, reader-reachable, reading}
@@ -34,15 +32,6 @@ pub record Fields : Type 0 where
   pub above : (word place width value : ℕ) → word < 2 ^ 64 → place + width ≤ 64 → (other size : ℕ) → place + width ≤ other
       → field (placed word place width value) other size ≡ field word other size
 
--- a frame's header that is written is read back, and a frame that is not refused is its header, written again, and its zone
-pub record Headers : Type 0 where
-  pub count-back : (s : Settings) (c p : ℕ) (f : List ℕ) → in-range s ≡ true → c < 2 ^ count-width (s .link) → p < 2 ^ 11
-      → take (zone-at (s .link)) f ≡ head s c p → count s f ≡ c
-  pub pointer-back : (s : Settings) (c p : ℕ) (f : List ℕ) → in-range s ≡ true → c < 2 ^ count-width (s .link) → p < 2 ^ 11
-      → take (zone-at (s .link)) f ≡ head s c p → pointer s f ≡ p
-  pub again : (s : Settings) (f : List ℕ) → in-range s ≡ true → Octets f → first (frame-rows s f) ≡ 0
-      → f ≡ headers (s .link) (count s f) (replay s f) (pointer-word (pointer s f)) ++ zone-of s f
-
 -- a data unit that is wrapped, and a space packet's header that is written, are read back; that header the other way round; and it says the same to
 -- the one header reader
 pub record Packets : Type 0 where
@@ -51,21 +40,21 @@ pub record Packets : Type 0 where
       → packets.RoundTrip limit protocol extension unit output
   pub space : (h : SpaceHeader) (output : List ℕ) → first (space-rows h (length output)) ≡ 0
       → space-reading (space-writing h output .output) ≡ record { accepted = true; refusal = 0; header = h }
-  pub space-again : (os : List ℕ) → Octets os → first (space-read-rows os) ≡ 0
+  pub space-again : (os : List ℕ) → AllOctets os → first (space-read-rows os) ≡ 0
       → space-writing (space-reading os .header) os ≡ record { refusal = 0; output = os }
   pub space-same : SameHeader
 
 -- bits that are written are read back, and a frame that is read has its bits where the promise says
 pub record Bits : Type 0 where
   pub written-read : (s : BitSettings) (w : Writer) (bits : List ℕ) (n : ℕ) (buffer : List ℕ) → written s w bits n buffer .said .refusal ≡ 0
-      → Octets bits → (x : Reader) → reader-reachable s x ≡ true
+      → AllOctets bits → (x : Reader) → reader-reachable s x ≡ true
       → ReadBack s x (w .count) n bits (take (bit-frame-length s) (written s w bits n buffer .frame))
-  pub read-has : (s : BitSettings) (x : Reader) (f : List ℕ) → Octets f → reading s x f .refusal ≡ 0 → HasBits s (reading s x f .bits) f
+  pub read-has : (s : BitSettings) (x : Reader) (f : List ℕ) → AllOctets f → reading s x f .refusal ≡ 0 → HasBits s (reading s x f .bits) f
 
 -- and with these the list, carried and handed over, every event of the extractor, how soon a frame is spent, and run files
 pub record Demand2 : Type 0 where
   pub fields : Fields
-  pub headers-read : Headers
+  pub headers-read : HeadersRead
   pub packets-read : Packets
   pub bits-read : Bits
   pub orders : OrdersCarried

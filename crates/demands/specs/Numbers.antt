@@ -2,7 +2,7 @@
 use Rattle.demands.specs.Numbers.Ranges.{Edges}
 use Rattle.demands.specs.Numbers.Only.{OnlyThese}
 use Rattle.demands.specs.Numbers.FrameFields as frames
-use Rattle.demands.specs.Numbers.PacketFields.{SpacePackets, EncapsulationPackets}
+use Rattle.demands.specs.Numbers.PacketFields.{SpacePackets, EncapsulationPackets, IdlePackets}
 use Rattle.demands.specs.Numbers.SpaceFields as space
 use Rattle.demands.specs.Numbers.Wrapping as wrapping
 use Rattle.demands.specs.Numbers.Multiplexing as multiplexing
@@ -45,6 +45,7 @@ pub record Refusals : Type 0 where
   pub step : stepping.Refusals
   pub judge : judging.Refusals
   pub wrap : wrapping.Refusals
+  pub write-idle : IdlePackets
   pub bitstream : bits.Refusals
 
 -- what each call does and leaves

@@ -4,8 +4,7 @@ use mathlib.Core.Path.{_≡_}
 use mathlib.Core.List.{List}
 use mathlib.Core.Bool.{true}
 use lib.Dec.{ltb, eqb}
-use Rattle.octets.specs.Basics.{pick, first}
-use Rattle.octets.proofs.Numbers.{Octets}
+use Rattle.octets.specs.Basics.{AllOctets, pick, first}
 use Rattle.packets.specs.Packet.{limit-in-range}
 use Rattle.packets.specs.Header.{Reading, bare, reading}
 use Rattle.space.specs.Space.{space-read-rows, space-reading}
@@ -20,6 +19,6 @@ as-packet limit h =
 
 -- octets that are read as a space packet's header, at any limit in range; and those in which the header reader finds a space packet are so read
 pub record SameHeader : Type 0 where
-  pub told : (limit : ℕ) (os : List ℕ) → Octets os → limit-in-range limit ≡ true → first (space-read-rows os) ≡ 0
+  pub told : (limit : ℕ) (os : List ℕ) → AllOctets os → limit-in-range limit ≡ true → first (space-read-rows os) ≡ 0
       → reading limit os ≡ as-packet limit (space-reading os .header)
-  pub read : (limit : ℕ) (os : List ℕ) → Octets os → reading limit os .outcome ≡ 3 → reading limit os .version ≡ 0 → first (space-read-rows os) ≡ 0
+  pub read : (limit : ℕ) (os : List ℕ) → AllOctets os → reading limit os .outcome ≡ 3 → reading limit os .version ≡ 0 → first (space-read-rows os) ≡ 0

@@ -7,3 +7,4 @@ pub mod Extractor
 pub mod Judge
 pub mod Bitstream
 pub mod RunFile
+pub mod Exports

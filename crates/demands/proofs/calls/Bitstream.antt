@@ -10,7 +10,7 @@ use Rattle.octets.proofs.Tests.{told-apart}
 use Rattle.bitstream.specs.Bitstream.{write-rows, Wrote, wrote, written, read-rows, reading}
 use Rattle.bitstream.specs.declared.Written.{Written}
 use Rattle.bitstream.specs.declared.Reading.{Reading}
-use Rattle.bitstream.proofs.Reached.{writer-kept, reader-kept}
+use Rattle.bitstream.proofs.Reached.{writer-kept, reader-kept, reaches-all}
 use Rattle.demands.specs.Promises.{Left}
 use Rattle.demands.specs.calls.Bitstream.{OfBitstream}
 use Rattle.demands.proofs.Promised.{promised, exactly}
@@ -18,6 +18,7 @@ use Rattle.demands.proofs.Promised.{promised, exactly}
 pub of-bitstream : OfBitstream
 unfolding written reading
 of-bitstream = record {
+  begin = exactly;
   write = λ κs s w bits-lent n frame-lent.
       let bits : List ℕ = now bits-lent in
       let frame : List ℕ = now frame-lent in
@@ -37,4 +38,5 @@ of-bitstream = record {
   leading-octets = λ κs s n f part. exactly;
   keeps-writer = writer-kept;
   keeps-reader = reader-kept;
+  exact = reaches-all;
 }

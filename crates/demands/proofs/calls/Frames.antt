@@ -5,8 +5,8 @@ use mathlib.Core.Path.{_≡_, refl}
 use mathlib.Core.List.{List}
 use denote.Ref.{now}
 use Rattle.octets.specs.Basics.{over, Row, first}
-use Rattle.frames.specs.Frame.{frame-rows, count, replay, pointer, heading-of, heading, head, head-rows}
-use Rattle.frames.specs.BitFrame.{bit-frame-rows, bit-count, bit-replay, bit-pointer, bit-heading, bit-head, bit-head-rows}
+use Rattle.frames.specs.Frame.{heading-rows, count, replay, pointer, heading-of, heading, head, head-rows}
+use Rattle.frames.specs.BitFrame.{bit-heading-rows, bit-count, bit-replay, bit-pointer, bit-heading, bit-head, bit-head-rows}
 use Rattle.frames.specs.declared.Heading.{Heading}
 use Rattle.demands.specs.Promises.{as-read}
 use Rattle.demands.specs.calls.Frames.{Reads, OfFrames}
@@ -26,11 +26,11 @@ of-frames = record {
   has-length = λ s len. exactly;
   is-short = λ s len. exactly;
   missing = λ c last. exactly;
-  read-head = λ κs s f. heads (frame-rows s (now f)) (count s (now f)) (replay s (now f)) (pointer s (now f));
+  read-head = λ κs s f. heads (heading-rows s (now f)) (count s (now f)) (replay s (now f)) (pointer s (now f));
   write-head = λ κs s c p buf. writes (head-rows s c p (now buf)) (over (now buf) 0 (head s c p)) (now buf);
   bits-in-range = λ s. exactly;
   bits-has-length = λ s len. exactly;
   bits-is-short = λ s len. exactly;
-  bits-read-head = λ κs s f. heads (bit-frame-rows s (now f)) (bit-count s (now f)) (bit-replay s (now f)) (bit-pointer s (now f));
+  bits-read-head = λ κs s f. heads (bit-heading-rows s (now f)) (bit-count s (now f)) (bit-replay s (now f)) (bit-pointer s (now f));
   bits-write-head = λ κs s c p buf. writes (bit-head-rows s c p (now buf)) (over (now buf) 0 (bit-head s c p)) (now buf);
 }

@@ -3,11 +3,12 @@ use Prim.Native.Nat.{ℕ}
 use mathlib.Core.List.{List, [], _∷_}
 use Rattle.octets.specs.Basics.{first}
 use Rattle.packets.specs.Header.{reading}
+use Rattle.packets.specs.Idle.{idle-packet-rows}
 use Rattle.packets.specs.Wrap.{wrapping, unwrapping}
-use Rattle.space.specs.Space.{space-writing}
+use Rattle.space.specs.Space.{space-reading, space-writing}
 use Rattle.space.specs.declared.SpaceHeader.{SpaceHeader}
-use Rattle.frames.specs.Frame.{head-rows}
-use Rattle.frames.specs.BitFrame.{bit-head-rows}
+use Rattle.frames.specs.Frame.{heading, head-rows}
+use Rattle.frames.specs.BitFrame.{bit-heading, bit-head-rows}
 use Rattle.frames.specs.declared.Settings.{Settings}
 use Rattle.frames.specs.declared.bits.BitSettings.{BitSettings}
 use Rattle.multiplexer.specs.Calls.{to-put, to-flush, to-idle, answer}
@@ -37,9 +38,13 @@ pub record OnlyThese : Type 0 where
       → Among (wrapping limit protocol extension unit output .refusal) (0 ∷ 1 ∷ 8 ∷ 2 ∷ [])
   pub unwrap : (limit : ℕ) (p : List ℕ) → Among (unwrapping limit p .refusal) (0 ∷ 1 ∷ 8 ∷ 6 ∷ [])
   pub header : (limit : ℕ) (os : List ℕ) → Among (reading limit os .refusal) (0 ∷ 1 ∷ [])
+  pub write-idle : (r room : ℕ) → Among (first (idle-packet-rows r room)) (0 ∷ 1 ∷ 2 ∷ [])
+  pub read-space : (os : List ℕ) → Among (space-reading os .refusal) (0 ∷ 8 ∷ [])
   pub write-space : (h : SpaceHeader) (output : List ℕ) → Among (space-writing h output .refusal) (0 ∷ 1 ∷ 2 ∷ [])
   pub write-bits : (s : BitSettings) (w : Writer) (bits : List ℕ) (n : ℕ) (frame : List ℕ)
       → Among (written s w bits n frame .said .refusal) (0 ∷ 1 ∷ 2 ∷ 10 ∷ [])
   pub read-bits : (s : BitSettings) (x : Reader) (f : List ℕ) → Among (bits.reading s x f .refusal) (0 ∷ 1 ∷ 10 ∷ 3 ∷ 4 ∷ 5 ∷ 6 ∷ 7 ∷ [])
+  pub read-head : (s : Settings) (f : List ℕ) → Among (heading s f .refusal) (0 ∷ 1 ∷ 3 ∷ 4 ∷ 5 ∷ 6 ∷ 7 ∷ [])
+  pub read-bit-head : (s : BitSettings) (f : List ℕ) → Among (bit-heading s f .refusal) (0 ∷ 1 ∷ 3 ∷ 4 ∷ 5 ∷ 6 ∷ 7 ∷ [])
   pub write-head : (s : Settings) (c p : ℕ) (buffer : List ℕ) → Among (first (head-rows s c p buffer)) (0 ∷ 1 ∷ 2 ∷ [])
   pub write-bit-head : (s : BitSettings) (c p : ℕ) (buffer : List ℕ) → Among (first (bit-head-rows s c p buffer)) (0 ∷ 1 ∷ 2 ∷ [])

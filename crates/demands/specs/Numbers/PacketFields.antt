@@ -4,8 +4,10 @@ use mathlib.Core.Path.{_≡_}
 use mathlib.Core.List.{List, [], _∷_, map}
 use mathlib.Core.Bool.{Bool, true, false}
 use lib.ListN.{replicate}
+use Rattle.octets.specs.Basics.{first}
 use Rattle.packets.specs.Packet.{well-formed}
 use Rattle.packets.specs.Header.{Reading, reading}
+use Rattle.packets.specs.Idle.{idle-packet-rows}
 
 -- a whole header: version, APID or protocol, whether it is idle, its length and the packet's
 abbrev pub whole : ℕ → ℕ → Bool → ℕ → ℕ → Reading
@@ -64,3 +66,10 @@ pub record EncapsulationPackets : Type 0 where
   pub versions : map (λ o. read (o ∷ [])) (0x20 ∷ 0x40 ∷ 0x60 ∷ 0x80 ∷ 0xA0 ∷ 0xC0 ∷ []) ≡ replicate 6 damaged
   -- a lent packet has exactly its stated length
   pub stated : map (well-formed 12) ((0xE5 ∷ 3 ∷ []) ∷ (0xE5 ∷ 3 ∷ 0 ∷ []) ∷ (0xE5 ∷ 3 ∷ 0 ∷ 0 ∷ []) ∷ (0xE5 ∷ 2 ∷ []) ∷ []) ≡ false ∷ true ∷ false ∷ true ∷ []
+
+-- what writing an idle packet of r octets is refused for
+pub record IdlePackets : Type 0 where
+  -- a length that no idle packet has, no room, and the first of the two
+  pub lengths : map (λ r. first (idle-packet-rows r 65536)) (0 ∷ 1 ∷ 65535 ∷ 65536 ∷ []) ≡ 1 ∷ 0 ∷ 0 ∷ 1 ∷ []
+  pub rooms : map (λ room. first (idle-packet-rows 3 room)) (0 ∷ 2 ∷ 3 ∷ []) ≡ 2 ∷ 2 ∷ 0 ∷ []
+  pub order : first (idle-packet-rows 65536 3) ≡ 1

@@ -8,8 +8,8 @@ use Rattle.octets.specs.Basics.{and, first}
 use Rattle.packets.specs.Packet.{limit-in-range, well-formed}
 use Rattle.packets.specs.Header.{reading}
 use Rattle.packets.specs.Wrap.{wrapping, unwrapping}
-use Rattle.frames.specs.Frame.{in-range, head-rows}
-use Rattle.frames.specs.BitFrame.{bits-in-range, bit-head-rows}
+use Rattle.frames.specs.Frame.{in-range, heading, head-rows}
+use Rattle.frames.specs.BitFrame.{bits-in-range, bit-heading, bit-head-rows}
 use Rattle.frames.specs.declared.Settings.{Settings}
 use Rattle.frames.specs.declared.bits.BitSettings.{BitSettings}
 use Rattle.multiplexer.specs.Multiplex.{begun}
@@ -22,7 +22,7 @@ use Rattle.judge.specs.declared.Judge.the-variants.{Open}
 use Rattle.bitstream.specs.Bitstream.{written}
 use Rattle.bitstream.specs.Bitstream as bits
 use Rattle.bitstream.specs.declared.Reader.the-variants as reader
-use Rattle.demands.specs.Numbers.Samples.{set, set-bits, two-octets, lent}
+use Rattle.demands.specs.Numbers.Samples.{set, set-bits, small, two-octets, lent}
 
 -- Z 1 to 2,046; M from the greater of 7 and Z to 65,542; spacecraft 0 to 255; channel 0 to 62
 abbrev pub inside : List Settings
@@ -46,12 +46,13 @@ calls s =
     ∷ first (head-rows s 0 0 [])
     ∷ []
 
--- W 1 to 2,047; a reader is lent nothing to write, and finds the frame too short: 3
+-- W 1 to 2,047; the two readers are lent nothing to write, and find the frame too short: 3
 abbrev pub bit-calls : BitSettings → List ℕ
 bit-calls s =
     written s (record { count = 0 }) [] 0 [] .said .refusal
     ∷ first (bit-head-rows s 0 0 [])
     ∷ bits.reading s reader.Fresh [] .refusal
+    ∷ bit-heading s [] .refusal
     ∷ []
 
 -- M alone: the header reader, wrapping and unwrapping; these refuse nothing at all by 8
@@ -61,10 +62,13 @@ limit-calls limit = reading limit [] .refusal ∷ wrapping limit 1 0 [] [] .refu
 pub record Edges : Type 0 where
   pub settings-in : map calls inside ≡ replicate 3 (replicate 9 2)
   pub settings-out : map calls outside ≡ replicate 7 (replicate 9 1)
+  -- a frame's header that is read is lent nothing to write either
+  pub heads-in : map (λ s. heading s [] .refusal) inside ≡ replicate 3 3
+  pub heads-out : map (λ s. heading s [] .refusal) outside ≡ replicate 7 1
   pub tests : map in-range inside ≡ replicate 3 true
   pub tests-out : map in-range outside ≡ replicate 7 false
-  pub bits-in : map bit-calls (set-bits 0 0 1 ∷ set-bits 255 62 2047 ∷ []) ≡ replicate 2 (2 ∷ 2 ∷ 3 ∷ [])
-  pub bits-out : map bit-calls (set-bits 0 0 0 ∷ set-bits 0 0 2048 ∷ set-bits 256 0 1 ∷ set-bits 0 63 1 ∷ []) ≡ replicate 4 (1 ∷ 1 ∷ 1 ∷ [])
+  pub bits-in : map bit-calls (set-bits 0 0 1 ∷ set-bits 255 62 2047 ∷ []) ≡ replicate 2 (2 ∷ 2 ∷ 3 ∷ 3 ∷ [])
+  pub bits-out : map bit-calls (set-bits 0 0 0 ∷ set-bits 0 0 2048 ∷ set-bits 256 0 1 ∷ set-bits 0 63 1 ∷ []) ≡ replicate 4 (1 ∷ 1 ∷ 1 ∷ 1 ∷ [])
   pub bit-tests : map bits-in-range (set-bits 0 0 1 ∷ set-bits 0 0 2047 ∷ set-bits 0 0 0 ∷ set-bits 0 0 2048 ∷ []) ≡ true ∷ true ∷ false ∷ false ∷ []
   pub limits : map limit-calls (7 ∷ 65542 ∷ 6 ∷ 65543 ∷ []) ≡ (0 ∷ 8 ∷ 8 ∷ []) ∷ (0 ∷ 8 ∷ 8 ∷ []) ∷ (1 ∷ 1 ∷ 1 ∷ []) ∷ (1 ∷ 1 ∷ 1 ∷ []) ∷ []
   pub formed : map (λ limit. and (limit-in-range limit) (well-formed limit (0xE0 ∷ []))) (7 ∷ 65542 ∷ 6 ∷ 65543 ∷ []) ≡ true ∷ true ∷ false ∷ false ∷ []
@@ -77,3 +81,6 @@ pub record Edges : Type 0 where
   -- a count of 24 bits to be written
   pub counts : map (λ c. first (head-rows (set 0 0 1 7) c 0 (lent 8))) (16777215 ∷ 16777216 ∷ []) ≡ 0 ∷ 1 ∷ []
   pub bit-counts : map (λ c. first (bit-head-rows two-octets c 0 (lent 8))) (16777215 ∷ 16777216 ∷ []) ≡ 0 ∷ 1 ∷ []
+  -- a pointer to be written is one that reading takes
+  pub pointers : map (λ p. first (head-rows small 0 p (lent 8))) (9 ∷ 10 ∷ 2045 ∷ 2046 ∷ 2047 ∷ 2048 ∷ []) ≡ 0 ∷ 1 ∷ 1 ∷ 0 ∷ 0 ∷ 1 ∷ []
+  pub bit-pointers : map (λ p. first (bit-head-rows two-octets 0 p (lent 8))) (14 ∷ 15 ∷ 16381 ∷ 16382 ∷ 16383 ∷ 16384 ∷ []) ≡ 0 ∷ 1 ∷ 1 ∷ 0 ∷ 0 ∷ 1 ∷ []

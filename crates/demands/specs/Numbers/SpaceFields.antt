@@ -13,6 +13,10 @@ abbrev pub fields : ℕ → ℕ → ℕ → ℕ → ℕ → ℕ → SpaceHeader
 fields kind secondary apid flags count length =
     record { version = 0; «packet_type» = kind; secondary = secondary; apid = apid; flags = flags; count = count; length = length }
 
+-- no field set but the version
+abbrev pub of-version : ℕ → SpaceHeader
+of-version version = record { version = version; «packet_type» = 0; secondary = 0; apid = 0; flags = 0; count = 0; length = 0 }
+
 -- a header and its six octets
 pub record Header : Type 0 where
   pub header : SpaceHeader
@@ -57,3 +61,6 @@ pub record Headers : Type 0 where
       (fields 2 0 0 0 0 0 ∷ fields 0 2 0 0 0 0 ∷ fields 0 0 2048 0 0 0 ∷ fields 0 0 0 4 0 0 ∷ fields 0 0 0 0 16384 0 ∷ fields 0 0 0 0 0 65536 ∷ [])
       ≡ replicate 6 1
   pub no-room : refuses (lent 5) (fields 0 0 0 0 0 0) ∷ refuses (lent 5) (fields 2 0 0 0 0 0) ∷ refuses (lent 6) (fields 1 1 2047 3 16383 65535) ∷ [] ≡ 2 ∷ 1 ∷ 0 ∷ []
+  -- another version is not written, and neither it nor fewer than six octets are read
+  pub versions : map (λ version. refuses (lent 6) (of-version version)) (0 ∷ 1 ∷ 4 ∷ 7 ∷ 8 ∷ []) ≡ 0 ∷ 1 ∷ 1 ∷ 1 ∷ 1 ∷ []
+  pub not-read : map (λ os. space-reading os .refusal) (replicate 5 0 ∷ (0x20 ∷ replicate 5 0) ∷ (0x80 ∷ replicate 5 0) ∷ (0xE0 ∷ replicate 5 0) ∷ []) ≡ 8 ∷ 8 ∷ 8 ∷ 8 ∷ []

@@ -7,18 +7,21 @@ use lib.ListN.{length}
 use contract.Lifetimes.{Lfts}
 use denote.Ref.{now, at-last}
 use Rattle.frames.specs.declared.bits.BitSettings.{BitSettings}
-use Rattle.bitstream.specs.Bitstream.{writer-reachable, write-rows, wrote, written, reader-reachable, read-rows, reading, leading-octets}
+use Rattle.bitstream.specs.Bitstream.{begun, writer-reachable, write-rows, wrote, written, reader-reachable, read-rows, reading, leading-octets}
+use Rattle.bitstream.specs.Statements.{ReachesAll}
 use Rattle.bitstream.specs.declared.Writer.{Writer}
 use Rattle.bitstream.specs.declared.Written.{Written}
 use Rattle.bitstream.specs.declared.Reader.{Reader}
 use Rattle.bitstream.specs.declared.Reading.{Reading}
+use Rattle.bitstream.proofs.begin.Reads as begin-fn
 use Rattle.bitstream.proofs.write.Reads as write-fn
 use Rattle.bitstream.proofs.read.Reads as read-fn
 use Rattle.bitstream.proofs.leading_octets.Reads as leading-octets-fn
 use Rattle.demands.specs.Promises.{Slice, Left, as-read, Is, Promised}
 
--- writing and reading bits, and the octets that hold them; the records that are handed back pass the check for refusal 10, and it is exact
+-- the first record, writing and reading bits, and the octets that hold them; the records that are handed back pass the check for refusal 10, and it is exact
 pub record OfBitstream : Type 0 where
+  pub begin : Is (as-read (begin-fn.Pre tt tt) (λ r. begin-fn.Post tt tt r tt)) begun
   pub write : (κs : Lfts 2) (s : BitSettings) (w : Writer) (bits : Slice) (n : ℕ) (frame : Slice)
       → Promised (as-read (write-fn.Pre κs (s, (w, (bits, (n, (frame, tt))))))
       (λ (o : Left Written). write-fn.Post κs (s, (w, (bits, (n, (frame, tt))))) (o .answer) (s, (w, (bits, (n, (at-last frame (o .lent), tt)))))))
@@ -36,3 +39,4 @@ pub record OfBitstream : Type 0 where
       → writer-reachable s (written s w bits n frame .said .writer) ≡ true
   pub keeps-reader : (s : BitSettings) (x : Reader) (f : List ℕ) → reader-reachable s x ≡ true
       → reader-reachable s (reading s x f .reader) ≡ true
+  pub exact : ReachesAll

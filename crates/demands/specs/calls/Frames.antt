@@ -6,8 +6,8 @@ use contract.Lifetimes.{Lfts}
 use denote.Ref.{now, at-last}
 use Rattle.octets.specs.Basics.{over, Row}
 use Rattle.frames.specs.Link.{missing}
-use Rattle.frames.specs.Frame.{in-range, frame-length, frame-rows, heading, head, head-rows}
-use Rattle.frames.specs.BitFrame.{bits-in-range, bit-frame-length, bit-frame-rows, bit-heading, bit-head, bit-head-rows}
+use Rattle.frames.specs.Frame.{in-range, frame-length, heading-rows, heading, head, head-rows}
+use Rattle.frames.specs.BitFrame.{bits-in-range, bit-frame-length, bit-heading-rows, bit-heading, bit-head, bit-head-rows}
 use Rattle.frames.specs.declared.Settings.{Settings}
 use Rattle.frames.specs.declared.bits.BitSettings.{BitSettings}
 use Rattle.frames.specs.declared.Heading.{Heading}
@@ -38,7 +38,7 @@ pub record OfFrames : Type 0 where
   pub missing : (c last : ℕ)
       → Is (as-read (missing-fn.Pre tt (c, (last, tt))) (λ r. missing-fn.Post tt (c, (last, tt)) r (c, (last, tt)))) (missing 24 last c)
   pub read-head : (κs : Lfts 1) (s : Settings) (f : Slice)
-      → Reads (as-read (read-head-fn.Pre κs (s, (f, tt))) (λ r. read-head-fn.Post κs (s, (f, tt)) r (s, (f, tt)))) (frame-rows s (now f)) (heading s (now f))
+      → Reads (as-read (read-head-fn.Pre κs (s, (f, tt))) (λ r. read-head-fn.Post κs (s, (f, tt)) r (s, (f, tt)))) (heading-rows s (now f)) (heading s (now f))
   pub write-head : (κs : Lfts 1) (s : Settings) (c p : ℕ) (buf : Slice)
       → Writes (as-read (write-head-fn.Pre κs (s, (c, (p, (buf, tt)))))
       (λ o. write-head-fn.Post κs (s, (c, (p, (buf, tt)))) (o .answer) (s, (c, (p, (at-last buf (o .lent), tt))))))
@@ -50,7 +50,7 @@ pub record OfFrames : Type 0 where
   pub bits-is-short : (s : BitSettings) (len : ℕ)
       → Is (as-read (bits-is-short-fn.Pre tt (s, (len, tt))) (λ r. bits-is-short-fn.Post tt (s, (len, tt)) r (s, (len, tt)))) (ltb len (bit-frame-length s))
   pub bits-read-head : (κs : Lfts 1) (s : BitSettings) (f : Slice)
-      → Reads (as-read (bits-read-head-fn.Pre κs (s, (f, tt))) (λ r. bits-read-head-fn.Post κs (s, (f, tt)) r (s, (f, tt)))) (bit-frame-rows s (now f)) (bit-heading s (now f))
+      → Reads (as-read (bits-read-head-fn.Pre κs (s, (f, tt))) (λ r. bits-read-head-fn.Post κs (s, (f, tt)) r (s, (f, tt)))) (bit-heading-rows s (now f)) (bit-heading s (now f))
   pub bits-write-head : (κs : Lfts 1) (s : BitSettings) (c p : ℕ) (buf : Slice)
       → Writes (as-read (bits-write-head-fn.Pre κs (s, (c, (p, (buf, tt)))))
       (λ o. bits-write-head-fn.Post κs (s, (c, (p, (buf, tt)))) (o .answer) (s, (c, (p, (at-last buf (o .lent), tt))))))
