@@ -4,52 +4,47 @@
  * How to read this file
  * ---------------------
  *
- * Every call answers a refusal number, 0 when it was not refused:
- *
- *    0  not refused
- *    1  a setting or an argument is out of range
- *    2  a lent buffer or array is too short
- *    3  a frame to be read does not have exactly its length
- *    4  the frame's version is not 01
- *    5  the frame is of another spacecraft or channel
- *    6  a spare bit is 1; or, unwrapping, an extension without protocol 6
- *       or a reserved field that is not 0
- *    7  the frame's pointer is one that cannot be
- *    8  a lent packet is not well formed, or a data unit is empty or would
- *       pass the limit when wrapped
- *    9  wrong moment for this call
- *   10  the record, or the octets held in the store, are not ones that the
- *       calls can have left there
- *   11  a frame beyond the judge's last
- *
- * When several apply, the number is the first one in the order that stands at
- * the call. The library keeps nothing between calls: what has to be remembered
- * is in the record and the store, and both belong to the caller.
- *
- * Slices. Each buffer or array is lent as a pointer and the number of its
- * entries. The pointer must be good for that many entries and must not be null,
- * not even for 0 entries. What a call may write must not overlap anything else
- * lent to that call. A buffer may be longer than needed; then its tail is left
- * alone. The exceptions are a frame to be read, which is refused (3) when it is
- * longer, and a packet to be put or unwrapped, whose stated length must be
- * exactly what is lent (8).
- *
- * Arrays of numbers. Settings, records and answers are arrays of uint64_t; the
- * ITZ_..._NUMBERS constants say how many entries each has. An array that is
- * shorter is refused (2) before anything else is looked at, and then nothing at
- * all is written, the answer included. Entries past those are neither read nor
- * written.
+ * Every call answers a refusal, one of enum itz_refusal, and 0
+ * (ITZ_ACCEPTED) when it was not refused. When several apply, the number is
+ * the first one in the order that stands at the call. What else a call has to
+ * say it lays into an array of numbers, its answer.
  *
  * Refusals. A refused call leaves the record and every octet as lent, and sets
- * all entries of its answer to 0.
+ * all entries of its answer to 0. Entry 0 of an answer that names an outcome is
+ * never 0 otherwise: 0 is "refused, nothing said".
  *
- * Records. A caller starts one from its ITZ_..._START and afterwards only hands
- * it back. A record with a kind that is not listed, a number that is too great,
- * or an entry that its kind does not use and that is not 0, is refused (10).
+ * Arrays of numbers. Settings, records and answers are arrays of uint64_t. An
+ * enum names the entries of each, and its last constant, ITZ_..._NUMBERS, says
+ * how many there are. An array that is shorter is refused (2) before anything
+ * else is looked at, and then nothing at all is written, the answer included.
+ * Entries past those are neither read nor written.
+ *
+ * Slices. Each buffer or array is lent as a pointer and the number of its
+ * entries, and the pointer must be good for that many. A null pointer may be
+ * lent with 0 entries: nothing is read or written through it. A buffer may be
+ * longer than needed; then its tail is left alone. The exceptions are a frame
+ * to be read, which is refused (3) when it is longer, and a packet to be put,
+ * tested or unwrapped, whose stated length must be exactly what is lent.
+ *
+ * Aliasing. What a call may write, the pointers without const, must not
+ * overlap anything else lent to that call. What it only reads may overlap.
+ *
+ * Records. A caller starts one as its comment says and afterwards only hands it
+ * back. A record with a kind that is not listed, a number that is too great, or
+ * an entry that its kind does not use and that is not 0, is refused (10).
  *
  * The store. Extractor and judge hold the front of an unfinished packet in a
  * store that the caller lends with each call, at least `limit` octets. Use one
  * store for one extractor, and another for one judge.
+ *
+ * Threads. The library keeps nothing between calls and has no variables of its
+ * own: what has to be remembered is in the record and the store, and both
+ * belong to the caller. Calls with different records, stores and answers may
+ * run at the same time; calls that share one of those may not.
+ *
+ * Machine. x86-64 Linux, by its usual calling convention. The library uses no
+ * heap, no files and no signals, and of the C library only memcpy, memmove and
+ * memset.
  */
 #ifndef ITZAHUEMO_H
 #define ITZAHUEMO_H
@@ -57,29 +52,58 @@
 #include <stddef.h>
 #include <stdint.h>
 
+/* Before every call: an answer that is ignored warns. */
+#if (defined(__cplusplus) && __cplusplus >= 201703L) || \
+    (defined(__STDC_VERSION__) && __STDC_VERSION__ >= 202311L)
+#define ITZ_CALL [[nodiscard]]
+#elif defined(__GNUC__)
+#define ITZ_CALL __attribute__((warn_unused_result))
+#else
+#define ITZ_CALL
+#endif
+
 #ifdef __cplusplus
 extern "C" {
 #endif
 
-/*
- * Settings of a channel that carries packets:
- *   [0] spacecraft  0 to 255
- *   [1] channel     0 to 62
- *   [2] zone        octets of a packet zone, 1 to 2046; a frame has zone + 8
- *   [3] limit       greatest total length of a packet, from the greater of 7
- *                   and `zone` to 65542
- *   [4] fill        the octet that fills idle space, 0 to 255
- */
-#define ITZ_SETTINGS_NUMBERS 5
+/* Why a call is refused. */
+enum itz_refusal {
+    ITZ_ACCEPTED = 0,         /* it is not */
+    ITZ_REFUSED_SETTING = 1,  /* a setting or an argument is out of range */
+    ITZ_REFUSED_ROOM = 2,     /* a lent buffer or array is too short */
+    ITZ_REFUSED_LENGTH = 3,   /* a frame to be read does not have exactly its length */
+    ITZ_REFUSED_VERSION = 4,  /* the frame's version is not 01 */
+    ITZ_REFUSED_CHANNEL = 5,  /* the frame is of another spacecraft or channel */
+    ITZ_REFUSED_SPARE = 6,    /* a spare bit is 1; or, unwrapping, an extension without
+                                 protocol 6 or a reserved field that is not 0 */
+    ITZ_REFUSED_POINTER = 7,  /* the frame's pointer is one that cannot be */
+    ITZ_REFUSED_PACKET = 8,   /* a lent packet is not well formed, a data unit is empty or would
+                                 pass the limit when wrapped, or octets hold no space header */
+    ITZ_REFUSED_MOMENT = 9,   /* wrong moment for this call */
+    ITZ_REFUSED_RECORD = 10,  /* the record, or the octets held in the store, are not ones that
+                                 the calls can have left there */
+    ITZ_REFUSED_LAST = 11     /* a frame beyond the judge's last */
+};
 
-/*
- * Settings of a channel that carries bits:
- *   [0] spacecraft  0 to 255
- *   [1] channel     0 to 62
- *   [2] width       octets of a bitstream zone, 1 to 2047; a frame has width + 8
- *   [3] fill        the octet whose bits fill the rest of a zone, 0 to 255
- */
-#define ITZ_BIT_SETTINGS_NUMBERS 4
+/* Settings of a channel that carries packets. */
+enum {
+    ITZ_SETTINGS_SPACECRAFT,  /* 0 to 255 */
+    ITZ_SETTINGS_CHANNEL,     /* 0 to 62 */
+    ITZ_SETTINGS_ZONE,        /* octets of a packet zone, 1 to 2046; a frame has zone + 8 */
+    ITZ_SETTINGS_LIMIT,       /* greatest total length of a packet, from the greater of 7 and
+                                 `zone` to 65542 */
+    ITZ_SETTINGS_FILL,        /* the octet that fills idle space, 0 to 255 */
+    ITZ_SETTINGS_NUMBERS
+};
+
+/* Settings of a channel that carries bits. */
+enum {
+    ITZ_BIT_SETTINGS_SPACECRAFT,  /* 0 to 255 */
+    ITZ_BIT_SETTINGS_CHANNEL,     /* 0 to 62 */
+    ITZ_BIT_SETTINGS_WIDTH,       /* octets of a bitstream zone, 1 to 2047; a frame has width + 8 */
+    ITZ_BIT_SETTINGS_FILL,        /* the octet whose bits fill the rest of a zone, 0 to 255 */
+    ITZ_BIT_SETTINGS_NUMBERS
+};
 
 /* ---- Packets ------------------------------------------------------------ */
 
@@ -87,94 +111,201 @@ extern "C" {
  * Reads the header at the front of `octets`, which may end anywhere: before the
  * header does, or long after the packet.
  *
- * `limit` is 7 to 65542 here and in the two calls below.
- *
- * answer: [0] what was found: 0 more octets are needed, 1 damaged, 2 a header
- *         [1] kind: 1 space packet, 2 encapsulation packet
- *         [2] 1 for an idle packet (APID 2047, or protocol 0), else 0
- *         [3] APID of a space packet, protocol of an encapsulation packet
- *         [4] octets of the header
- *         [5] total length, header included
- *         Entries 1 to 5 are 0 unless a header was found.
+ * `limit` is 7 to 65542 here and in the calls below that have one.
  * Order of refusals: 1.
  */
-#define ITZ_HEADER_NUMBERS 6
-uint64_t itz_read_header(uint64_t limit,
-                         const uint8_t *octets, size_t octets_len,
-                         uint64_t *answer, size_t answer_len);
+enum {
+    ITZ_HEADER_WHAT,   /* what was found; the entries below are 0 unless a header was */
+    ITZ_HEADER_KIND,   /* the kind of packet */
+    ITZ_HEADER_IDLE,   /* 1 for an idle packet (APID 2047, or protocol 0), else 0 */
+    ITZ_HEADER_KEY,    /* APID of a space packet, protocol of an encapsulation packet */
+    ITZ_HEADER_SIZE,   /* octets of the header */
+    ITZ_HEADER_TOTAL,  /* total length, header included */
+    ITZ_HEADER_NUMBERS
+};
+
+enum itz_header {
+    ITZ_HEADER_MORE = 1,     /* more octets are needed */
+    ITZ_HEADER_DAMAGED = 2,  /* no packet begins so */
+    ITZ_HEADER_WHOLE = 3     /* a header */
+};
+
+enum itz_kind {
+    ITZ_SPACE = 1,
+    ITZ_ENCAPSULATION = 2
+};
+
+ITZ_CALL uint64_t itz_read_header(uint64_t limit,
+                                  const uint8_t *octets, size_t octets_len,
+                                  uint64_t *answer, size_t answer_len);
+
+/*
+ * Tests whether `packet` is one whole packet within the limit, no octet more.
+ *
+ * Order of refusals: 1.
+ */
+enum {
+    ITZ_FORMED_WHAT,
+    ITZ_FORMED_NUMBERS
+};
+
+enum itz_formed {
+    ITZ_FORMED = 1,
+    ITZ_NOT_FORMED = 2
+};
+
+ITZ_CALL uint64_t itz_well_formed(uint64_t limit,
+                                  const uint8_t *packet, size_t packet_len,
+                                  uint64_t *answer, size_t answer_len);
 
 /*
  * Wraps a data unit in an encapsulation packet with the smallest header that
  * fits, written to the front of `packet`. `protocol` is 1 to 7; `extension` is
  * 0 to 15 with protocol 6 and 0 with any other.
  *
- * answer: [0] total length of the packet written
  * Order of refusals: 1, 8, 2.
  */
-#define ITZ_WRAPPED_NUMBERS 1
-uint64_t itz_wrap(uint64_t limit, uint64_t protocol, uint64_t extension,
-                  const uint8_t *data, size_t data_len,
-                  uint8_t *packet, size_t packet_len,
-                  uint64_t *answer, size_t answer_len);
+enum {
+    ITZ_WRAPPED_TOTAL,  /* total length of the packet written */
+    ITZ_WRAPPED_NUMBERS
+};
+
+ITZ_CALL uint64_t itz_wrap(uint64_t limit, uint64_t protocol, uint64_t extension,
+                           const uint8_t *data, size_t data_len,
+                           uint8_t *packet, size_t packet_len,
+                           uint64_t *answer, size_t answer_len);
 
 /*
  * Finds the data unit in an encapsulation packet. Idle packets are answered
  * like any other, and a packet of a header alone has a data unit of 0 octets.
  *
- * answer: [0] protocol
- *         [1] extension, 0 where the header has none
- *         [2] place in `packet` where the data unit begins
- *         [3] octets of the data unit
  * Order of refusals: 1, 8, 6. A space packet is 8.
  */
-#define ITZ_UNWRAPPED_NUMBERS 4
-uint64_t itz_unwrap(uint64_t limit,
-                    const uint8_t *packet, size_t packet_len,
-                    uint64_t *answer, size_t answer_len);
+enum {
+    ITZ_UNWRAPPED_PROTOCOL,
+    ITZ_UNWRAPPED_EXTENSION,  /* 0 where the header has none */
+    ITZ_UNWRAPPED_START,      /* place in `packet` where the data unit begins, 1 at least */
+    ITZ_UNWRAPPED_SIZE,       /* octets of the data unit */
+    ITZ_UNWRAPPED_NUMBERS
+};
+
+ITZ_CALL uint64_t itz_unwrap(uint64_t limit,
+                             const uint8_t *packet, size_t packet_len,
+                             uint64_t *answer, size_t answer_len);
+
+/*
+ * Holds an answer of itz_unwrap to a packet: start and size of the data unit
+ * where it lies within `packet`, and 0 and 0 where it would run past the end
+ * or where the unwrapping was refused.
+ */
+enum {
+    ITZ_UNIT_START,
+    ITZ_UNIT_SIZE,
+    ITZ_UNIT_NUMBERS
+};
+
+ITZ_CALL uint64_t itz_unit_part(const uint64_t *unwrapped, size_t unwrapped_len,
+                                const uint8_t *packet, size_t packet_len,
+                                uint64_t *answer, size_t answer_len);
+
+/*
+ * Reads the six octets of a space packet's primary header, field by field.
+ *
+ * Order of refusals: 8, for fewer than six octets or a version other than 000.
+ */
+enum {
+    ITZ_SPACE_TOTAL,      /* total length of the packet: the length field + 7 */
+    ITZ_SPACE_VERSION,    /* 0 */
+    ITZ_SPACE_TYPE,       /* 0 telemetry, 1 telecommand */
+    ITZ_SPACE_SECONDARY,  /* 1 with a secondary header */
+    ITZ_SPACE_APID,
+    ITZ_SPACE_FLAGS,      /* sequence flags */
+    ITZ_SPACE_COUNT,      /* sequence count */
+    ITZ_SPACE_LENGTH,     /* the length field */
+    ITZ_SPACE_NUMBERS
+};
+
+ITZ_CALL uint64_t itz_read_space(const uint8_t *octets, size_t octets_len,
+                                 uint64_t *answer, size_t answer_len);
+
+/*
+ * Writes such a header over the first six octets. `header` has the seven fields
+ * as itz_read_space tells them from ITZ_SPACE_VERSION on.
+ *
+ * Order of refusals: 1, 2.
+ */
+enum {
+    ITZ_SPACE_HEADER_VERSION,    /* 0 */
+    ITZ_SPACE_HEADER_TYPE,       /* 0 or 1 */
+    ITZ_SPACE_HEADER_SECONDARY,  /* 0 or 1 */
+    ITZ_SPACE_HEADER_APID,       /* 0 to 2047 */
+    ITZ_SPACE_HEADER_FLAGS,      /* 0 to 3 */
+    ITZ_SPACE_HEADER_COUNT,      /* 0 to 16383 */
+    ITZ_SPACE_HEADER_LENGTH,     /* 0 to 65535 */
+    ITZ_SPACE_HEADER_NUMBERS
+};
+
+ITZ_CALL uint64_t itz_write_space(const uint64_t *header, size_t header_len,
+                                  uint8_t *octets, size_t octets_len);
 
 /* ---- Multiplexer -------------------------------------------------------- */
 
 /*
- * The multiplexer's record:
- *   [0] count   of the frame in work, below 2^24
- *   [1] filled  octets of its zone that are laid
- *   [2] first   place in the zone of the first packet start, 2047 while none
- *   [3] taken   octets of a packet begun in an earlier zone that were taken
+ * The multiplexer's record. itz_mux_begin lays the first one into an array.
  *
  * `frame` needs zone + 8 octets. Lend the same frame until its zone is full,
  * and the same packet until it is taken. The eight octets in front of the zone
  * are written when the zone is full.
  */
-#define ITZ_MUX_NUMBERS 4
-#define ITZ_MUX_START { 0, 0, 2047, 0 }
+enum {
+    ITZ_MUX_COUNT,   /* of the frame in work, below 2^24 */
+    ITZ_MUX_FILLED,  /* octets of its zone that are laid */
+    ITZ_MUX_FIRST,   /* place in the zone of the first packet start, 2047 while none */
+    ITZ_MUX_TAKEN,   /* octets of a packet begun in an earlier zone that were taken */
+    ITZ_MUX_NUMBERS
+};
+
+ITZ_CALL uint64_t itz_mux_begin(uint64_t *record, size_t record_len);
 
 /*
- * Lays as many octets of the packet as the zone has room for.
+ * Lays as many octets of the packet as the zone has room for. The zone is full,
+ * or the packet is taken, or both.
  *
- * answer: [0] 1 when the zone is full and the frame is written, else 0
- *         [1] 1 when the whole packet has been taken, else 0
  * Order of refusals: 1, 2, 10, 9, 8. 9 is a packet no longer than the octets
  * already taken of it.
  */
-#define ITZ_PUT_NUMBERS 2
-uint64_t itz_mux_put(const uint64_t *settings, size_t settings_len,
-                     uint64_t *record, size_t record_len,
-                     const uint8_t *packet, size_t packet_len,
-                     uint8_t *frame, size_t frame_len,
-                     uint64_t *answer, size_t answer_len);
+enum {
+    ITZ_PUT_FULL,   /* 1 when the zone is full and the frame is written, else 0 */
+    ITZ_PUT_TAKEN,  /* 1 when the whole packet has been taken, else 0 */
+    ITZ_PUT_NUMBERS
+};
+
+ITZ_CALL uint64_t itz_mux_put(const uint64_t *settings, size_t settings_len,
+                              uint64_t *record, size_t record_len,
+                              const uint8_t *packet, size_t packet_len,
+                              uint8_t *frame, size_t frame_len,
+                              uint64_t *answer, size_t answer_len);
 
 /*
  * Closes a begun zone with one idle packet. A zone with nothing in it yet is
  * left alone.
  *
- * answer: [0] 1 when a frame was written, else 0
  * Order of refusals: 1, 2, 10, 9. 9 is a packet not wholly taken.
  */
-#define ITZ_FLUSH_NUMBERS 1
-uint64_t itz_mux_flush(const uint64_t *settings, size_t settings_len,
-                       uint64_t *record, size_t record_len,
-                       uint8_t *frame, size_t frame_len,
-                       uint64_t *answer, size_t answer_len);
+enum {
+    ITZ_FLUSH_WHAT,
+    ITZ_FLUSH_NUMBERS
+};
+
+enum itz_flush {
+    ITZ_FLUSH_NOTHING = 1,  /* nothing was begun, and nothing is written */
+    ITZ_FLUSH_FRAME = 2     /* the frame is written */
+};
+
+ITZ_CALL uint64_t itz_mux_flush(const uint64_t *settings, size_t settings_len,
+                                uint64_t *record, size_t record_len,
+                                uint8_t *frame, size_t frame_len,
+                                uint64_t *answer, size_t answer_len);
 
 /*
  * Writes a frame whose zone carries no packet at all.
@@ -182,77 +313,125 @@ uint64_t itz_mux_flush(const uint64_t *settings, size_t settings_len,
  * Order of refusals: 1, 2, 10, 9. 9 is a packet not wholly taken or a zone that
  * is begun.
  */
-uint64_t itz_mux_idle(const uint64_t *settings, size_t settings_len,
-                      uint64_t *record, size_t record_len,
-                      uint8_t *frame, size_t frame_len);
+ITZ_CALL uint64_t itz_mux_idle(const uint64_t *settings, size_t settings_len,
+                               uint64_t *record, size_t record_len,
+                               uint8_t *frame, size_t frame_len);
 
 /* ---- Extractor ---------------------------------------------------------- */
 
 /*
- * The extractor's record:
- *   [0] kind: 0 fresh, 1 out of step, 2 in step, 3 walking, 4 leaving
- *   [1] last  count of the last frame entered    (kinds 1, 2, 3, 4)
- *   [2] held  octets held in the store           (kinds 2, 3)
- *   [3] at    place of the walk in the zone      (kind 3)
- * Kinds 3 and 4 stand between entering a frame and its spent step.
+ * The extractor's record, which starts as ITZ_EXTRACTOR_START.
  *
  * Enter a frame, then step with the same frame until a step says spent, then
  * enter the next.
  */
-#define ITZ_EXTRACTOR_NUMBERS 4
+enum {
+    ITZ_EXTRACTOR_KIND,  /* 0 fresh, 1 out of step, 2 in step; and between entering a frame and
+                            its spent step 3 walking, 4 leaving */
+    ITZ_EXTRACTOR_LAST,  /* count of the last frame entered   (kinds 1, 2, 3, 4) */
+    ITZ_EXTRACTOR_HELD,  /* octets held in the store          (kinds 2, 3) */
+    ITZ_EXTRACTOR_AT,    /* place of the walk in the zone     (kind 3) */
+    ITZ_EXTRACTOR_NUMBERS
+};
+
 #define ITZ_EXTRACTOR_START { 0, 0, 0, 0 }
 
 /*
  * Enters a frame. The store is only read.
  *
- * answer: [0] the frame's count
- *         [1] its replay flag
- *         [2] frames missing between the last one and this
- *         [3] held octets that were dropped
- *         [4] why the frame does not go on from what came before: 0 nothing is
- *             wrong, 1 frames are missing (told also when out of step), 2 the
- *             pointer is not the agreed one, 3 the header begun in the store
- *             came out damaged. With 1 to 3 the frame's own pointer may put the
- *             extractor in step again at once.
  * Order of refusals: 1, 2, 10, 9, 3, 4, 5, 6, 7. 9 is a frame entered before the
  * last is spent.
  */
-#define ITZ_ENTERED_NUMBERS 5
-uint64_t itz_extractor_enter(const uint64_t *settings, size_t settings_len,
-                             uint64_t *record, size_t record_len,
-                             const uint8_t *store, size_t store_len,
-                             const uint8_t *frame, size_t frame_len,
-                             uint64_t *answer, size_t answer_len);
+enum {
+    ITZ_ENTERED_WHAT,     /* ITZ_ENTERED */
+    ITZ_ENTERED_COUNT,    /* the frame's count */
+    ITZ_ENTERED_REPLAY,   /* its replay flag */
+    ITZ_ENTERED_LOST,     /* frames missing between the last one and this */
+    ITZ_ENTERED_DROPPED,  /* held octets that were dropped */
+    ITZ_ENTERED_REASON,   /* why the frame does not go on from what came before */
+    ITZ_ENTERED_NUMBERS
+};
+
+enum itz_entered {
+    ITZ_ENTERED = 1
+};
+
+/* With all but the first the frame's own pointer may put the extractor in step again at once. */
+enum itz_reason {
+    ITZ_REASON_NONE = 0,     /* nothing is wrong */
+    ITZ_REASON_LOST = 1,     /* frames are missing; told also when out of step */
+    ITZ_REASON_POINTER = 2,  /* the pointer is not the agreed one */
+    ITZ_REASON_DAMAGED = 3   /* the header begun in the store came out damaged */
+};
+
+ITZ_CALL uint64_t itz_extractor_enter(const uint64_t *settings, size_t settings_len,
+                                      uint64_t *record, size_t record_len,
+                                      const uint8_t *store, size_t store_len,
+                                      const uint8_t *frame, size_t frame_len,
+                                      uint64_t *answer, size_t answer_len);
 
 /*
- * Takes the next thing out of the entered frame.
+ * Takes the next thing out of the entered frame. A packet in the store lies at
+ * its front, and only until the next step.
  *
- * answer: [0] what it was: 0 spent, 1 packet, 2 idle packet, 3 damaged (the
- *             rest of the zone is given up; the next step says spent)
- *         [1] where the packet lies: 0 nowhere, 1 in `frame`, 2 in `store`
- *         [2] place of its first octet in that buffer
- *         [3] its octets
- *         A packet in the store lies at its front, and only until the next step.
  * Order of refusals: 1, 2, 10, 9, 3. 9 is a step with no frame entered.
  */
-#define ITZ_STEP_NUMBERS 4
-uint64_t itz_extractor_step(const uint64_t *settings, size_t settings_len,
-                            uint64_t *record, size_t record_len,
-                            uint8_t *store, size_t store_len,
-                            const uint8_t *frame, size_t frame_len,
-                            uint64_t *answer, size_t answer_len);
+enum {
+    ITZ_STEP_WHAT,   /* what it was */
+    ITZ_STEP_PLACE,  /* the buffer where the packet lies */
+    ITZ_STEP_START,  /* place of its first octet in that buffer */
+    ITZ_STEP_SIZE,   /* its octets */
+    ITZ_STEP_NUMBERS
+};
+
+enum itz_step {
+    ITZ_STEP_PACKET = 1,
+    ITZ_STEP_IDLE = 2,     /* an idle packet */
+    ITZ_STEP_DAMAGED = 3,  /* the rest of the zone is given up; the next step says spent */
+    ITZ_STEP_SPENT = 4     /* nothing is left in the frame */
+};
+
+enum itz_place {
+    ITZ_NOWHERE = 0,
+    ITZ_IN_FRAME = 1,
+    ITZ_IN_STORE = 2
+};
+
+ITZ_CALL uint64_t itz_extractor_step(const uint64_t *settings, size_t settings_len,
+                                     uint64_t *record, size_t record_len,
+                                     uint8_t *store, size_t store_len,
+                                     const uint8_t *frame, size_t frame_len,
+                                     uint64_t *answer, size_t answer_len);
+
+/*
+ * Holds an answer of itz_extractor_step to a frame and a store: place, start and
+ * size of the packet where it lies within that buffer, and ITZ_NOWHERE, 0, 0
+ * where it would run past the end or where the step found no packet.
+ */
+enum {
+    ITZ_SHOWN_PLACE,
+    ITZ_SHOWN_START,
+    ITZ_SHOWN_SIZE,
+    ITZ_SHOWN_NUMBERS
+};
+
+ITZ_CALL uint64_t itz_show(const uint64_t *step, size_t step_len,
+                           const uint8_t *frame, size_t frame_len,
+                           const uint8_t *store, size_t store_len,
+                           uint64_t *answer, size_t answer_len);
 
 /* ---- Judge -------------------------------------------------------------- */
 
-/*
- * The judge's record:
- *   [0] kind: 0 no frame yet, 1 sound so far, 2 faulty
- *   [1] tally  frames taken, 1 to 2^24           (kinds 1, 2)
- *   [2] last   count of the last frame (kind 1); index of the first faulty
- *              frame, from 0 (kind 2)
- *   [3] held   octets held in the store          (kind 1)
- */
-#define ITZ_JUDGE_NUMBERS 4
+/* The judge's record, which starts as ITZ_JUDGE_START. */
+enum {
+    ITZ_JUDGE_KIND,   /* 0 no frame yet, 1 sound so far, 2 faulty */
+    ITZ_JUDGE_TALLY,  /* frames taken, 1 to 2^24 (kinds 1, 2) */
+    ITZ_JUDGE_LAST,   /* count of the last frame (kind 1); index of the first faulty frame,
+                         from 0 (kind 2) */
+    ITZ_JUDGE_HELD,   /* octets held in the store (kind 1) */
+    ITZ_JUDGE_NUMBERS
+};
+
 #define ITZ_JUDGE_START { 0, 0, 0, 0 }
 
 /*
@@ -261,32 +440,41 @@ uint64_t itz_extractor_step(const uint64_t *settings, size_t settings_len,
  *
  * Order of refusals: 1, 2, 10, 11.
  */
-uint64_t itz_judge_frame(const uint64_t *settings, size_t settings_len,
-                         uint64_t *record, size_t record_len,
-                         uint8_t *store, size_t store_len,
-                         const uint8_t *frame, size_t frame_len);
+ITZ_CALL uint64_t itz_judge_frame(const uint64_t *settings, size_t settings_len,
+                                  uint64_t *record, size_t record_len,
+                                  uint8_t *store, size_t store_len,
+                                  const uint8_t *frame, size_t frame_len);
 
 /*
  * Says how the run stands if it ends here. Record and store are only read.
  *
- * answer: [0] 0 pass, 1 fault
- *         [1] index of the first faulty frame; the number of frames when the
- *             run ends within a packet; 0 with a pass
  * Order of refusals: 1, 2, 10.
  */
-#define ITZ_VERDICT_NUMBERS 2
-uint64_t itz_judge_close(const uint64_t *settings, size_t settings_len,
-                         const uint64_t *record, size_t record_len,
-                         const uint8_t *store, size_t store_len,
-                         uint64_t *answer, size_t answer_len);
+enum {
+    ITZ_VERDICT_WHAT,
+    ITZ_VERDICT_INDEX,  /* index of the first faulty frame; the number of frames when the run
+                           ends within a packet; 0 with a pass */
+    ITZ_VERDICT_NUMBERS
+};
+
+enum itz_verdict {
+    ITZ_PASS = 1,
+    ITZ_FAULT = 2
+};
+
+ITZ_CALL uint64_t itz_judge_close(const uint64_t *settings, size_t settings_len,
+                                  const uint64_t *record, size_t record_len,
+                                  const uint8_t *store, size_t store_len,
+                                  uint64_t *answer, size_t answer_len);
 
 /* ---- Bitstream ---------------------------------------------------------- */
 
-/*
- * The record of a writer of bits:
- *   [0] count  of the next frame, below 2^24
- */
-#define ITZ_BIT_WRITER_NUMBERS 1
+/* The record of a writer of bits, which starts as ITZ_BIT_WRITER_START. */
+enum {
+    ITZ_BIT_WRITER_COUNT,  /* of the next frame, below 2^24 */
+    ITZ_BIT_WRITER_NUMBERS
+};
+
 #define ITZ_BIT_WRITER_START { 0 }
 
 /*
@@ -296,35 +484,39 @@ uint64_t itz_judge_close(const uint64_t *settings, size_t settings_len,
  *
  * Order of refusals: 1, 2, 10.
  */
-uint64_t itz_bits_write(const uint64_t *settings, size_t settings_len,
-                        uint64_t *record, size_t record_len,
-                        const uint8_t *bits, size_t bits_len, uint64_t n,
-                        uint8_t *frame, size_t frame_len);
+ITZ_CALL uint64_t itz_bits_write(const uint64_t *settings, size_t settings_len,
+                                 uint64_t *record, size_t record_len,
+                                 const uint8_t *bits, size_t bits_len, uint64_t n,
+                                 uint8_t *frame, size_t frame_len);
 
-/*
- * The record of a reader of bits:
- *   [0] 0 no frame yet, 1 a frame was read
- *   [1] last  count of the last frame read (0 when there is none)
- */
-#define ITZ_BIT_READER_NUMBERS 2
+/* The record of a reader of bits, which starts as ITZ_BIT_READER_START. */
+enum {
+    ITZ_BIT_READER_KIND,  /* 0 no frame yet, 1 a frame was read */
+    ITZ_BIT_READER_LAST,  /* count of the last frame read (kind 1) */
+    ITZ_BIT_READER_NUMBERS
+};
+
 #define ITZ_BIT_READER_START { 0, 0 }
 
 /*
  * Reads a frame of bits.
  *
- * answer: [0] the frame's count
- *         [1] its replay flag
- *         [2] 1 when this count does not follow the last one, else 0
- *         [3] number of valid bits
- *         [4] place in `frame` of the octets that hold them: 8
- *         [5] number of those octets, as few as hold the bits
  * Order of refusals: 1, 10, 3, 4, 5, 6, 7.
  */
-#define ITZ_BITS_NUMBERS 6
-uint64_t itz_bits_read(const uint64_t *settings, size_t settings_len,
-                       uint64_t *record, size_t record_len,
-                       const uint8_t *frame, size_t frame_len,
-                       uint64_t *answer, size_t answer_len);
+enum {
+    ITZ_BITS_COUNT,   /* the frame's count */
+    ITZ_BITS_REPLAY,  /* its replay flag */
+    ITZ_BITS_LOSS,    /* 1 when this count does not follow the last one, else 0 */
+    ITZ_BITS_VALID,   /* number of valid bits */
+    ITZ_BITS_START,   /* place in `frame` of the octets that hold them: 8 */
+    ITZ_BITS_SIZE,    /* number of those octets, as few as hold the bits */
+    ITZ_BITS_NUMBERS
+};
+
+ITZ_CALL uint64_t itz_bits_read(const uint64_t *settings, size_t settings_len,
+                                uint64_t *record, size_t record_len,
+                                const uint8_t *frame, size_t frame_len,
+                                uint64_t *answer, size_t answer_len);
 
 #ifdef __cplusplus
 }

@@ -5,10 +5,7 @@
  * flush closes the last frame. The frames then go to an extractor, which hands
  * the packets back, and to a judge, which says whether the run is sound.
  *
- * Build and run (`rt staticlib exports` writes the library):
- *
- *   cc -std=c99 -I../../include -o sample sample.c ../../target/staticlib/libexports.a
- *   ./sample
+ * `make` beside this file builds it, and the library where it is not there yet.
  */
 #include "itzahuemo.h"
 
@@ -29,7 +26,7 @@ static size_t written; /* frames that are full; the next one is in work */
 /* Ends the program when a call is refused. */
 static void must(const char *call, uint64_t refusal)
 {
-    if (refusal != 0) {
+    if (refusal != ITZ_ACCEPTED) {
         fprintf(stderr, "%s: refused %" PRIu64 "\n", call, refusal);
         exit(EXIT_FAILURE);
     }
@@ -54,9 +51,9 @@ static void send_packet(uint64_t *mux, const uint8_t *packet, size_t size)
     do {
         must("put", itz_mux_put(settings, ITZ_SETTINGS_NUMBERS, mux, ITZ_MUX_NUMBERS, packet, size,
                                 frames[written], FRAME, put, ITZ_PUT_NUMBERS));
-        if (put[0])
+        if (put[ITZ_PUT_FULL])
             frame_is_full();
-    } while (!put[1]);
+    } while (!put[ITZ_PUT_TAKEN]);
 }
 
 static void flush(uint64_t *mux)
@@ -64,7 +61,7 @@ static void flush(uint64_t *mux)
     uint64_t flushed[ITZ_FLUSH_NUMBERS];
     must("flush", itz_mux_flush(settings, ITZ_SETTINGS_NUMBERS, mux, ITZ_MUX_NUMBERS,
                                 frames[written], FRAME, flushed, ITZ_FLUSH_NUMBERS));
-    if (flushed[0])
+    if (flushed[ITZ_FLUSH_WHAT] == ITZ_FLUSH_FRAME)
         frame_is_full();
 }
 
@@ -75,10 +72,11 @@ static void show_packet(const uint8_t *packet, size_t size)
 {
     uint64_t header[ITZ_HEADER_NUMBERS];
     must("header", itz_read_header(LIMIT, packet, size, header, ITZ_HEADER_NUMBERS));
-    if (header[2])
-        printf("idle %" PRIu64 "\n", header[5]);
+    if (header[ITZ_HEADER_IDLE])
+        printf("idle %" PRIu64 "\n", header[ITZ_HEADER_TOTAL]);
     else
-        printf("%s %" PRIu64 " %" PRIu64 "\n", header[1] == 1 ? "space" : "encap", header[3], header[5]);
+        printf("%s %" PRIu64 " %" PRIu64 "\n", header[ITZ_HEADER_KIND] == ITZ_SPACE ? "space" : "encap",
+               header[ITZ_HEADER_KEY], header[ITZ_HEADER_TOTAL]);
 }
 
 /* Enters a frame and takes everything out of it. */
@@ -89,16 +87,18 @@ static void receive(uint64_t *extractor, uint8_t *store, const uint8_t *frame)
     must("enter", itz_extractor_enter(settings, ITZ_SETTINGS_NUMBERS, extractor, ITZ_EXTRACTOR_NUMBERS,
                                       store, LIMIT, frame, FRAME, entered, ITZ_ENTERED_NUMBERS));
     printf("frame %" PRIu64 " lost %" PRIu64 " dropped %" PRIu64 " reason %" PRIu64 "\n",
-           entered[0], entered[2], entered[3], entered[4]);
+           entered[ITZ_ENTERED_COUNT], entered[ITZ_ENTERED_LOST], entered[ITZ_ENTERED_DROPPED],
+           entered[ITZ_ENTERED_REASON]);
     for (;;) {
         must("step", itz_extractor_step(settings, ITZ_SETTINGS_NUMBERS, extractor, ITZ_EXTRACTOR_NUMBERS,
                                         store, LIMIT, frame, FRAME, step, ITZ_STEP_NUMBERS));
-        if (step[0] == 0)
+        if (step[ITZ_STEP_WHAT] == ITZ_STEP_SPENT)
             return;
-        if (step[0] == 3)
+        if (step[ITZ_STEP_WHAT] == ITZ_STEP_DAMAGED)
             printf("damaged\n");
         else
-            show_packet((step[1] == 1 ? frame : store) + step[2], (size_t)step[3]);
+            show_packet((step[ITZ_STEP_PLACE] == ITZ_IN_FRAME ? frame : store) + step[ITZ_STEP_START],
+                        (size_t)step[ITZ_STEP_SIZE]);
     }
 }
 
@@ -113,10 +113,10 @@ static void judge(void)
                                       store, LIMIT, frames[i], FRAME));
     must("close", itz_judge_close(settings, ITZ_SETTINGS_NUMBERS, record, ITZ_JUDGE_NUMBERS,
                                   store, LIMIT, verdict, ITZ_VERDICT_NUMBERS));
-    if (verdict[0])
-        printf("fault %" PRIu64 "\n", verdict[1]);
-    else
+    if (verdict[ITZ_VERDICT_WHAT] == ITZ_PASS)
         printf("pass\n");
+    else
+        printf("fault %" PRIu64 "\n", verdict[ITZ_VERDICT_INDEX]);
 }
 
 int main(void)
@@ -124,9 +124,10 @@ int main(void)
     static const uint8_t space[] = {0x00, 0x05, 0xC0, 0x00, 0x00, 0x01, 0xAA, 0xBB};
     static const uint8_t encapsulation[] = {0xE9, 0x05, 0x11, 0x22, 0x33};
     static uint8_t store[LIMIT];
-    uint64_t mux[ITZ_MUX_NUMBERS] = ITZ_MUX_START;
+    uint64_t mux[ITZ_MUX_NUMBERS];
     uint64_t extractor[ITZ_EXTRACTOR_NUMBERS] = ITZ_EXTRACTOR_START;
 
+    must("begin", itz_mux_begin(mux, ITZ_MUX_NUMBERS));
     send_packet(mux, space, sizeof space);
     send_packet(mux, encapsulation, sizeof encapsulation);
     flush(mux);
