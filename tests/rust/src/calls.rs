@@ -16,16 +16,19 @@ use crate::reference::{space, wrap, Refusal};
 pub const SETTINGS: usize = 5;
 pub const BIT_SETTINGS: usize = 4;
 pub const HEADER: usize = 6;
+pub const FORMED: usize = 1;
 pub const WRAPPED: usize = 1;
 pub const UNWRAPPED: usize = 4;
+pub const UNIT: usize = 2;
 pub const SPACE_READ: usize = 8;
 pub const SPACE_HEADER: usize = 7;
 pub const MUX: usize = 4;
 pub const PUT: usize = 2;
 pub const FLUSH: usize = 1;
 pub const EXTRACTOR: usize = 4;
-pub const ENTERED: usize = 5;
+pub const ENTERED: usize = 6;
 pub const STEP: usize = 4;
+pub const SHOWN: usize = 3;
 pub const JUDGE: usize = 4;
 pub const VERDICT: usize = 2;
 pub const BIT_WRITER: usize = 1;
@@ -35,6 +38,8 @@ pub const BITS: usize = 6;
 /// The calls. Each answers a refusal number, 0 when it was not refused.
 pub trait Calls {
     fn read_header(&self, limit: u64, octets: &[u8], answer: &mut [u64]) -> u64;
+
+    fn well_formed(&self, limit: u64, packet: &[u8], answer: &mut [u64]) -> u64;
 
     fn wrap(
         &self,
@@ -47,6 +52,10 @@ pub trait Calls {
     ) -> u64;
 
     fn unwrap(&self, limit: u64, packet: &[u8], answer: &mut [u64]) -> u64;
+
+    fn unit_part(&self, unwrapped: &[u64], packet: &[u8], answer: &mut [u64]) -> u64;
+
+    fn mux_begin(&self, record: &mut [u64]) -> u64;
 
     fn read_space(&self, octets: &[u8], answer: &mut [u64]) -> u64;
 
@@ -88,6 +97,8 @@ pub trait Calls {
         frame: &[u8],
         answer: &mut [u64],
     ) -> u64;
+
+    fn show(&self, step: &[u64], frame: &[u8], store: &[u8], answer: &mut [u64]) -> u64;
 
     fn judge_frame(
         &self,
@@ -131,16 +142,25 @@ impl Calls for Reference {
     fn read_header(&self, limit: u64, octets: &[u8], answer: &mut [u64]) -> u64 {
         answered::<HEADER>(answer, || {
             Ok(match packet::read_header(number(limit)?, octets)? {
-                Look::Cut => [0; HEADER],
-                Look::Damaged => [1, 0, 0, 0, 0, 0],
+                Look::Cut => [1, 0, 0, 0, 0, 0],
+                Look::Damaged => [2, 0, 0, 0, 0, 0],
                 Look::Whole(header) => {
                     let (kind, key) = match header.kind {
                         Kind::Space { apid } => (1, apid.into()),
                         Kind::Encapsulation { protocol } => (2, protocol.into()),
                     };
                     let idle = header.kind.is_idle().into();
-                    [2, kind, idle, key, header.length as u64, header.total as u64]
+                    [3, kind, idle, key, header.length as u64, header.total as u64]
                 }
+            })
+        })
+    }
+
+    fn well_formed(&self, limit: u64, packet: &[u8], answer: &mut [u64]) -> u64 {
+        answered::<FORMED>(answer, || {
+            Ok(match packet::read_header(number(limit)?, packet)? {
+                Look::Whole(header) if header.total == packet.len() => [1],
+                _ => [2],
             })
         })
     }
@@ -169,6 +189,19 @@ impl Calls for Reference {
             let (protocol, extension) = (unwrapped.protocol, unwrapped.extension);
             Ok([protocol.into(), extension.into(), start as u64, size as u64])
         })
+    }
+
+    fn unit_part(&self, unwrapped: &[u64], packet: &[u8], answer: &mut [u64]) -> u64 {
+        match front(unwrapped) {
+            Some(&[_, _, start, size]) => answered::<UNIT>(answer, || {
+                Ok(if lies_in(packet, start, size) { [start, size] } else { [0; UNIT] })
+            }),
+            None => Refusal::Room.number(),
+        }
+    }
+
+    fn mux_begin(&self, record: &mut [u64]) -> u64 {
+        answered::<MUX>(record, || Ok(mux_numbers(&multiplexer::Record::START)))
     }
 
     fn read_space(&self, octets: &[u8], answer: &mut [u64]) -> u64 {
@@ -226,7 +259,7 @@ impl Calls for Reference {
             let mut state = read_mux(record);
             let written = multiplexer::flush(&settings, &mut state, frame)?;
             *record = mux_numbers(&state);
-            Ok([written.into()])
+            Ok([if written { 2 } else { 1 }])
         })
     }
 
@@ -254,6 +287,7 @@ impl Calls for Reference {
             let entered = extractor::enter(&settings, &mut state, store, frame)?;
             *record = extractor_numbers(&state);
             Ok([
+                1,
                 entered.count.into(),
                 entered.replay.into(),
                 entered.lost.into(),
@@ -277,7 +311,7 @@ impl Calls for Reference {
             let step = extractor::step(&settings, &mut state, store, frame)?;
             *record = extractor_numbers(&state);
             Ok(match step {
-                Step::Spent => [0, 0, 0, 0],
+                Step::Spent => [4, 0, 0, 0],
                 Step::Damaged => [3, 0, 0, 0],
                 Step::Packet { kind, part } => {
                     let what = if kind.is_idle() { 2 } else { 1 };
@@ -288,6 +322,20 @@ impl Calls for Reference {
                 }
             })
         })
+    }
+
+    fn show(&self, step: &[u64], frame: &[u8], store: &[u8], answer: &mut [u64]) -> u64 {
+        match front(step) {
+            Some(&[_, place, start, size]) => answered::<SHOWN>(answer, || {
+                let there = match place {
+                    1 => lies_in(frame, start, size),
+                    2 => lies_in(store, start, size),
+                    _ => false,
+                };
+                Ok(if there { [place, start, size] } else { [0; SHOWN] })
+            }),
+            None => Refusal::Room.number(),
+        }
     }
 
     fn judge_frame(
@@ -317,8 +365,8 @@ impl Calls for Reference {
         with_record::<SETTINGS, JUDGE, VERDICT>(settings, &mut same, answer, |settings, record| {
             let settings = read_settings(settings)?;
             Ok(match judge::close(&settings, &read_judge(record), store)? {
-                Verdict::Pass => [0, 0],
-                Verdict::Fault(index) => [1, index.into()],
+                Verdict::Pass => [1, 0],
+                Verdict::Fault(index) => [2, index.into()],
             })
         })
     }
@@ -413,6 +461,11 @@ fn front<const N: usize>(array: &[u64]) -> Option<&[u64; N]> {
 
 fn front_mut<const N: usize>(array: &mut [u64]) -> Option<&mut [u64; N]> {
     array.get_mut(..N)?.try_into().ok()
+}
+
+/// Whether this many octets from `start` lie in a buffer.
+fn lies_in(buffer: &[u8], start: u64, size: u64) -> bool {
+    start.checked_add(size).map_or(false, |end| end <= buffer.len() as u64)
 }
 
 /// A number in the type that the rules use for it; one too great is out of range.

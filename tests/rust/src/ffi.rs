@@ -1,5 +1,7 @@
 //! The library, through its C interface.
 
+use std::ptr;
+
 use crate::calls::Calls;
 
 // The declarations of include/itzahuemo.h. A slice is a pointer and a length.
@@ -8,6 +10,14 @@ extern "C" {
         limit: u64,
         octets: *const u8,
         octets_len: usize,
+        answer: *mut u64,
+        answer_len: usize,
+    ) -> u64;
+
+    fn itz_well_formed(
+        limit: u64,
+        packet: *const u8,
+        packet_len: usize,
         answer: *mut u64,
         answer_len: usize,
     ) -> u64;
@@ -45,6 +55,17 @@ extern "C" {
         octets: *mut u8,
         octets_len: usize,
     ) -> u64;
+
+    fn itz_unit_part(
+        unwrapped: *const u64,
+        unwrapped_len: usize,
+        packet: *const u8,
+        packet_len: usize,
+        answer: *mut u64,
+        answer_len: usize,
+    ) -> u64;
+
+    fn itz_mux_begin(record: *mut u64, record_len: usize) -> u64;
 
     fn itz_mux_put(
         settings: *const u64,
@@ -105,6 +126,17 @@ extern "C" {
         answer_len: usize,
     ) -> u64;
 
+    fn itz_show(
+        step: *const u64,
+        step_len: usize,
+        frame: *const u8,
+        frame_len: usize,
+        store: *const u8,
+        store_len: usize,
+        answer: *mut u64,
+        answer_len: usize,
+    ) -> u64;
+
     fn itz_judge_frame(
         settings: *const u64,
         settings_len: usize,
@@ -151,17 +183,40 @@ extern "C" {
     ) -> u64;
 }
 
+// An empty slice is lent as null, as a caller in C may do.
+fn lent<T>(slice: &[T]) -> *const T {
+    if slice.is_empty() {
+        ptr::null()
+    } else {
+        slice.as_ptr()
+    }
+}
+
+fn lent_mut<T>(slice: &mut [T]) -> *mut T {
+    if slice.is_empty() {
+        ptr::null_mut()
+    } else {
+        slice.as_mut_ptr()
+    }
+}
+
 /// The calls as the library answers them.
 #[derive(Clone, Copy, Debug, Default)]
 pub struct Library;
 
 // Safety, here and below: every pointer comes from a slice that lives through
-// the call, with that slice's own length, and no two slices that are lent
-// together overlap where one of them may be written.
+// the call, with that slice's own length, or is null with no entries, and no two
+// slices that are lent together overlap where one of them may be written.
 impl Calls for Library {
     fn read_header(&self, limit: u64, octets: &[u8], answer: &mut [u64]) -> u64 {
         unsafe {
-            itz_read_header(limit, octets.as_ptr(), octets.len(), answer.as_mut_ptr(), answer.len())
+            itz_read_header(limit, lent(octets), octets.len(), lent_mut(answer), answer.len())
+        }
+    }
+
+    fn well_formed(&self, limit: u64, packet: &[u8], answer: &mut [u64]) -> u64 {
+        unsafe {
+            itz_well_formed(limit, lent(packet), packet.len(), lent_mut(answer), answer.len())
         }
     }
 
@@ -179,28 +234,43 @@ impl Calls for Library {
                 limit,
                 protocol,
                 extension,
-                data.as_ptr(),
+                lent(data),
                 data.len(),
-                packet.as_mut_ptr(),
+                lent_mut(packet),
                 packet.len(),
-                answer.as_mut_ptr(),
+                lent_mut(answer),
                 answer.len(),
             )
         }
     }
 
     fn unwrap(&self, limit: u64, packet: &[u8], answer: &mut [u64]) -> u64 {
-        unsafe {
-            itz_unwrap(limit, packet.as_ptr(), packet.len(), answer.as_mut_ptr(), answer.len())
-        }
+        unsafe { itz_unwrap(limit, lent(packet), packet.len(), lent_mut(answer), answer.len()) }
     }
 
     fn read_space(&self, octets: &[u8], answer: &mut [u64]) -> u64 {
-        unsafe { itz_read_space(octets.as_ptr(), octets.len(), answer.as_mut_ptr(), answer.len()) }
+        unsafe { itz_read_space(lent(octets), octets.len(), lent_mut(answer), answer.len()) }
     }
 
     fn write_space(&self, header: &[u64], octets: &mut [u8]) -> u64 {
-        unsafe { itz_write_space(header.as_ptr(), header.len(), octets.as_mut_ptr(), octets.len()) }
+        unsafe { itz_write_space(lent(header), header.len(), lent_mut(octets), octets.len()) }
+    }
+
+    fn unit_part(&self, unwrapped: &[u64], packet: &[u8], answer: &mut [u64]) -> u64 {
+        unsafe {
+            itz_unit_part(
+                lent(unwrapped),
+                unwrapped.len(),
+                lent(packet),
+                packet.len(),
+                lent_mut(answer),
+                answer.len(),
+            )
+        }
+    }
+
+    fn mux_begin(&self, record: &mut [u64]) -> u64 {
+        unsafe { itz_mux_begin(lent_mut(record), record.len()) }
     }
 
     #[inline]
@@ -214,15 +284,15 @@ impl Calls for Library {
     ) -> u64 {
         unsafe {
             itz_mux_put(
-                settings.as_ptr(),
+                lent(settings),
                 settings.len(),
-                record.as_mut_ptr(),
+                lent_mut(record),
                 record.len(),
-                packet.as_ptr(),
+                lent(packet),
                 packet.len(),
-                frame.as_mut_ptr(),
+                lent_mut(frame),
                 frame.len(),
-                answer.as_mut_ptr(),
+                lent_mut(answer),
                 answer.len(),
             )
         }
@@ -237,13 +307,13 @@ impl Calls for Library {
     ) -> u64 {
         unsafe {
             itz_mux_flush(
-                settings.as_ptr(),
+                lent(settings),
                 settings.len(),
-                record.as_mut_ptr(),
+                lent_mut(record),
                 record.len(),
-                frame.as_mut_ptr(),
+                lent_mut(frame),
                 frame.len(),
-                answer.as_mut_ptr(),
+                lent_mut(answer),
                 answer.len(),
             )
         }
@@ -252,11 +322,11 @@ impl Calls for Library {
     fn mux_idle(&self, settings: &[u64], record: &mut [u64], frame: &mut [u8]) -> u64 {
         unsafe {
             itz_mux_idle(
-                settings.as_ptr(),
+                lent(settings),
                 settings.len(),
-                record.as_mut_ptr(),
+                lent_mut(record),
                 record.len(),
-                frame.as_mut_ptr(),
+                lent_mut(frame),
                 frame.len(),
             )
         }
@@ -273,15 +343,15 @@ impl Calls for Library {
     ) -> u64 {
         unsafe {
             itz_extractor_enter(
-                settings.as_ptr(),
+                lent(settings),
                 settings.len(),
-                record.as_mut_ptr(),
+                lent_mut(record),
                 record.len(),
-                store.as_ptr(),
+                lent(store),
                 store.len(),
-                frame.as_ptr(),
+                lent(frame),
                 frame.len(),
-                answer.as_mut_ptr(),
+                lent_mut(answer),
                 answer.len(),
             )
         }
@@ -298,15 +368,30 @@ impl Calls for Library {
     ) -> u64 {
         unsafe {
             itz_extractor_step(
-                settings.as_ptr(),
+                lent(settings),
                 settings.len(),
-                record.as_mut_ptr(),
+                lent_mut(record),
                 record.len(),
-                store.as_mut_ptr(),
+                lent_mut(store),
                 store.len(),
-                frame.as_ptr(),
+                lent(frame),
                 frame.len(),
-                answer.as_mut_ptr(),
+                lent_mut(answer),
+                answer.len(),
+            )
+        }
+    }
+
+    fn show(&self, step: &[u64], frame: &[u8], store: &[u8], answer: &mut [u64]) -> u64 {
+        unsafe {
+            itz_show(
+                lent(step),
+                step.len(),
+                lent(frame),
+                frame.len(),
+                lent(store),
+                store.len(),
+                lent_mut(answer),
                 answer.len(),
             )
         }
@@ -321,13 +406,13 @@ impl Calls for Library {
     ) -> u64 {
         unsafe {
             itz_judge_frame(
-                settings.as_ptr(),
+                lent(settings),
                 settings.len(),
-                record.as_mut_ptr(),
+                lent_mut(record),
                 record.len(),
-                store.as_mut_ptr(),
+                lent_mut(store),
                 store.len(),
-                frame.as_ptr(),
+                lent(frame),
                 frame.len(),
             )
         }
@@ -342,13 +427,13 @@ impl Calls for Library {
     ) -> u64 {
         unsafe {
             itz_judge_close(
-                settings.as_ptr(),
+                lent(settings),
                 settings.len(),
-                record.as_ptr(),
+                lent(record),
                 record.len(),
-                store.as_ptr(),
+                lent(store),
                 store.len(),
-                answer.as_mut_ptr(),
+                lent_mut(answer),
                 answer.len(),
             )
         }
@@ -364,14 +449,14 @@ impl Calls for Library {
     ) -> u64 {
         unsafe {
             itz_bits_write(
-                settings.as_ptr(),
+                lent(settings),
                 settings.len(),
-                record.as_mut_ptr(),
+                lent_mut(record),
                 record.len(),
-                bits.as_ptr(),
+                lent(bits),
                 bits.len(),
                 number,
-                frame.as_mut_ptr(),
+                lent_mut(frame),
                 frame.len(),
             )
         }
@@ -386,13 +471,13 @@ impl Calls for Library {
     ) -> u64 {
         unsafe {
             itz_bits_read(
-                settings.as_ptr(),
+                lent(settings),
                 settings.len(),
-                record.as_mut_ptr(),
+                lent_mut(record),
                 record.len(),
-                frame.as_ptr(),
+                lent(frame),
                 frame.len(),
-                answer.as_mut_ptr(),
+                lent_mut(answer),
                 answer.len(),
             )
         }

@@ -14,17 +14,21 @@ pub struct Order {
     pub refusals: &'static [u64],
 }
 
-pub const ORDERS: [Order; 14] = [
+pub const ORDERS: [Order; 18] = [
     Order { call: "read_header", refusals: &[1] },
+    Order { call: "well_formed", refusals: &[1] },
     Order { call: "wrap", refusals: &[1, 8, 2] },
     Order { call: "unwrap", refusals: &[1, 8, 6] },
+    Order { call: "unit_part", refusals: &[] },
     Order { call: "read_space", refusals: &[8] },
     Order { call: "write_space", refusals: &[1, 2] },
+    Order { call: "mux_begin", refusals: &[] },
     Order { call: "mux_put", refusals: &[1, 2, 10, 9, 8] },
     Order { call: "mux_flush", refusals: &[1, 2, 10, 9] },
     Order { call: "mux_idle", refusals: &[1, 2, 10, 9] },
     Order { call: "extractor_enter", refusals: &[1, 2, 10, 9, 3, 4, 5, 6, 7] },
     Order { call: "extractor_step", refusals: &[1, 2, 10, 9, 3] },
+    Order { call: "show", refusals: &[] },
     Order { call: "judge_frame", refusals: &[1, 2, 10, 11] },
     Order { call: "judge_close", refusals: &[1, 2, 10] },
     Order { call: "bits_write", refusals: &[1, 2, 10] },
@@ -34,7 +38,8 @@ pub const ORDERS: [Order; 14] = [
 /// The arguments of any of the calls.
 #[derive(Clone, Debug, PartialEq, Eq)]
 pub struct Arguments {
-    /// Settings; or a limit, a protocol and an extension; or a space packet's fields.
+    /// Settings; or a limit, a protocol and an extension; or a space packet's fields; or the
+    /// answer of another call.
     pub numbers: Vec<u64>,
     pub record: Vec<u64>,
     /// What is only read: a frame, a packet, data or bits.
@@ -53,15 +58,19 @@ pub fn arguments(call: &str, refusals: &[u64]) -> Arguments {
     let frame = [&[0x50, 0x83, 0, 0, 5, 0, 0, 0][..], &[0xE0; 10]].concat();
     let (numbers, record, octets, buffer, answer) = match call {
         "read_header" => (vec![64, 0, 0], vec![], packet, vec![], calls::HEADER),
+        "well_formed" => (vec![64, 0, 0], vec![], packet, vec![], calls::FORMED),
         "wrap" => (vec![64, 2, 0], vec![], vec![0xA1; 5], vec![0; 7], calls::WRAPPED),
         "unwrap" => (vec![64, 0, 0], vec![], packet, vec![], calls::UNWRAPPED),
         "read_space" => (vec![], vec![], vec![0, 5, 0xC0, 0, 0, 1], vec![], calls::SPACE_READ),
         "write_space" => (vec![0, 0, 0, 5, 3, 0, 1], vec![], vec![], vec![0; 6], 0),
+        "unit_part" => (vec![2, 0, 4, 3], vec![], packet, vec![], calls::UNIT),
+        "mux_begin" => (vec![], vec![7; 4], vec![], vec![], 0),
         "mux_put" => (channel, vec![5, 0, 2_047, 0], packet, vec![0; 18], calls::PUT),
         "mux_flush" => (channel, vec![5, 0, 2_047, 0], vec![], vec![0; 18], calls::FLUSH),
         "mux_idle" => (channel, vec![5, 0, 2_047, 0], vec![], vec![0; 18], 0),
         "extractor_enter" => (channel, vec![2, 4, 0, 0], frame, vec![0; 64], calls::ENTERED),
         "extractor_step" => (channel, vec![3, 5, 0, 0], frame, vec![0; 64], calls::STEP),
+        "show" => (vec![1, 1, 8, 10], vec![], frame, vec![0; 64], calls::SHOWN),
         "judge_frame" => (channel, vec![1, 5, 4, 0], frame, vec![0; 64], 0),
         "judge_close" => (channel, vec![1, 5, 4, 0], vec![], vec![0; 64], calls::VERDICT),
         "bits_write" => (vec![66, 3, 10, 0x55], vec![5], vec![0xA1; 2], vec![0; 18], 0),
@@ -79,7 +88,7 @@ pub fn arguments(call: &str, refusals: &[u64]) -> Arguments {
 fn change(call: &str, refusal: u64, arguments: &mut Arguments) {
     let Arguments { numbers, record, octets, buffer, .. } = arguments;
     match (refusal, call) {
-        (1, "read_header" | "unwrap") => numbers[0] = 6,
+        (1, "read_header" | "well_formed" | "unwrap") => numbers[0] = 6,
         (1, "wrap") => numbers[1] = 0,
         (1, "write_space") => numbers[0] = 1,
         (1, _) => numbers[1] = 63,
@@ -114,15 +123,19 @@ pub fn make(calls: &dyn Calls, call: &str, arguments: &mut Arguments) -> u64 {
     let Arguments { numbers, record, octets, buffer, answer } = arguments;
     match call {
         "read_header" => calls.read_header(numbers[0], octets, answer),
+        "well_formed" => calls.well_formed(numbers[0], octets, answer),
         "wrap" => calls.wrap(numbers[0], numbers[1], numbers[2], octets, buffer, answer),
         "unwrap" => calls.unwrap(numbers[0], octets, answer),
         "read_space" => calls.read_space(octets, answer),
         "write_space" => calls.write_space(numbers, buffer),
+        "unit_part" => calls.unit_part(numbers, octets, answer),
+        "mux_begin" => calls.mux_begin(record),
         "mux_put" => calls.mux_put(numbers, record, octets, buffer, answer),
         "mux_flush" => calls.mux_flush(numbers, record, buffer, answer),
         "mux_idle" => calls.mux_idle(numbers, record, buffer),
         "extractor_enter" => calls.extractor_enter(numbers, record, buffer, octets, answer),
         "extractor_step" => calls.extractor_step(numbers, record, buffer, octets, answer),
+        "show" => calls.show(numbers, octets, buffer, answer),
         "judge_frame" => calls.judge_frame(numbers, record, buffer, octets),
         "judge_close" => calls.judge_close(numbers, record, buffer, answer),
         "bits_write" => calls.bits_write(numbers, record, octets, 13, buffer),

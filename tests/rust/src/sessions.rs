@@ -190,7 +190,9 @@ fn headers(pair: &mut Pair, random: &mut Random) -> Result<(), Difference> {
         })?;
         if refusal == 0 {
             pair.note("header found", lent.answer[0]);
+            octets.truncate(lent.answer[5].max(1) as usize);
         }
+        formed(pair, random, limit, &octets)?;
     }
     Ok(())
 }
@@ -211,6 +213,34 @@ fn space_headers(pair: &mut Pair, random: &mut Random) -> Result<(), Difference>
         })?;
     }
     Ok(())
+}
+
+/// Whether these octets are one well-formed packet.
+fn formed(
+    pair: &mut Pair,
+    random: &mut Random,
+    limit: u64,
+    packet: &[u8],
+) -> Result<(), Difference> {
+    let answer = answer(random, calls::FORMED);
+    let mut lent = Lent { record: vec![], buffer: vec![], answer };
+    let refusal = pair.both("well_formed", &[limit], packet, &mut lent, |calls, lent| {
+        calls.well_formed(limit, packet, &mut lent.answer)
+    })?;
+    if refusal == 0 {
+        pair.note("well formed", lent.answer[0]);
+    }
+    Ok(())
+}
+
+/// The answer of another call, at times with one number changed.
+fn some_answer(random: &mut Random, said: &[u64]) -> Vec<u64> {
+    let mut said = said.to_vec();
+    if random.once_in(4) {
+        let place = random.within(0, said.len() - 1);
+        said[place] = random.pick(&[0, 1, 2, 3, 8, 100, 1 << 32, u64::MAX]);
+    }
+    said
 }
 
 fn wrapping(pair: &mut Pair, random: &mut Random) -> Result<(), Difference> {
@@ -270,6 +300,11 @@ fn wrapping(pair: &mut Pair, random: &mut Random) -> Result<(), Difference> {
         pair.both("unwrap", &[limit], &packet, &mut lent, |calls, lent| {
             calls.unwrap(limit, &packet, &mut lent.answer)
         })?;
+        let unwrapped = some_answer(random, &lent.answer);
+        lent.answer = self::answer(random, calls::UNIT);
+        pair.both("unit_part", &unwrapped, &packet, &mut lent, |calls, lent| {
+            calls.unit_part(&unwrapped, &packet, &mut lent.answer)
+        })?;
     }
     Ok(())
 }
@@ -277,8 +312,9 @@ fn wrapping(pair: &mut Pair, random: &mut Random) -> Result<(), Difference> {
 fn multiplexing(pair: &mut Pair, random: &mut Random) -> Result<(), Difference> {
     let settings = generate::settings(random);
     let size = settings.frame_length() + random.within(0, 3);
-    let mut lent =
-        Lent { record: vec![0, 0, 2_047, 0], buffer: random.octets(size), answer: vec![] };
+    let record = answer(random, calls::MUX);
+    let mut lent = Lent { record, buffer: random.octets(size), answer: vec![] };
+    pair.both("mux_begin", &[], &[], &mut lent, |calls, lent| calls.mux_begin(&mut lent.record))?;
     if random.once_in(2) {
         lent.record[0] = u64::from(WHEEL) - random.within(1, 4) as u64;
     }
@@ -341,9 +377,12 @@ fn flush(
     lent: &mut Lent,
 ) -> Result<(), Difference> {
     lent.answer = answer(random, calls::FLUSH);
-    pair.both("mux_flush", numbers, &[], lent, |calls, lent| {
+    let refusal = pair.both("mux_flush", numbers, &[], lent, |calls, lent| {
         calls.mux_flush(numbers, &mut lent.record, &mut lent.buffer, &mut lent.answer)
     })?;
+    if refusal == 0 {
+        pair.note("flush", lent.answer[0]);
+    }
     Ok(())
 }
 
@@ -390,7 +429,7 @@ fn extracting(pair: &mut Pair, random: &mut Random) -> Result<(), Difference> {
         }
         let refusal = enter(pair, random, &numbers, &mut lent, frame)?;
         if refusal == 0 {
-            pair.note("reason", lent.answer[4]);
+            pair.note("reason", lent.answer[5]);
             walk(pair, random, &settings, &mut lent, frame)?;
         }
         if random.once_in(200) {
@@ -436,8 +475,11 @@ fn walk(
         }
         let refusal = step(pair, random, &numbers, lent, &stepped)?;
         steps += 1;
-        if refusal == 0 && lent.answer[0] == 0 {
+        if refusal == 0 && lent.answer[0] == 4 {
             break;
+        }
+        if random.once_in(4) {
+            show(pair, random, lent, &stepped)?;
         }
         // Only refused steps can make it longer than the zone allows.
         if steps > settings.zone {
@@ -486,6 +528,22 @@ fn step(
         pair.note("packet lies in", lent.answer[1]);
     }
     Ok(refusal)
+}
+
+/// Where the packet of the last step lies.
+fn show(
+    pair: &mut Pair,
+    random: &mut Random,
+    lent: &mut Lent,
+    frame: &[u8],
+) -> Result<(), Difference> {
+    let step = some_answer(random, &lent.answer);
+    lent.answer = answer(random, calls::SHOWN);
+    pair.both("show", &step, frame, lent, |calls, lent| {
+        calls.show(&step, frame, &lent.buffer, &mut lent.answer)
+    })?;
+    pair.note("shown in", lent.answer[0]);
+    Ok(())
 }
 
 fn judging(pair: &mut Pair, random: &mut Random) -> Result<(), Difference> {
@@ -696,6 +754,10 @@ fn short_arrays(pair: &mut Pair, random: &mut Random) -> Result<(), Difference> 
         pair.both("read_header", &[limit], &packet, &mut lent, |calls, lent| {
             calls.read_header(limit, &packet, &mut lent.answer)
         })?;
+        let (_, mut lent) = all(random, &channel, &[0], calls::FORMED);
+        pair.both("well_formed", &[limit], &packet, &mut lent, |calls, lent| {
+            calls.well_formed(limit, &packet, &mut lent.answer)
+        })?;
         let (_, mut lent) = all(random, &channel, &[0], calls::WRAPPED);
         lent.buffer = frame.clone();
         pair.both("wrap", &[limit], &[1], &mut lent, |calls, lent| {
@@ -716,6 +778,15 @@ fn short_arrays(pair: &mut Pair, random: &mut Random) -> Result<(), Difference> 
             calls.write_space(&header, &mut lent.buffer)
         })?;
 
+        let (numbers, mut lent) = all(random, &[2, 0, 4, 3], &[0], calls::UNIT);
+        pair.both("unit_part", &numbers, &packet, &mut lent, |calls, lent| {
+            calls.unit_part(&numbers, &packet, &mut lent.answer)
+        })?;
+
+        let (_, mut lent) = all(random, &channel, &[JUNK; calls::MUX], 0);
+        pair.both("mux_begin", &[], &[], &mut lent, |calls, lent| {
+            calls.mux_begin(&mut lent.record)
+        })?;
         let (numbers, mut lent) = all(random, &channel, &[0, 0, 2_047, 0], calls::PUT);
         lent.buffer = frame.clone();
         pair.both("mux_put", &numbers, &packet, &mut lent, |calls, lent| {
@@ -753,6 +824,12 @@ fn short_arrays(pair: &mut Pair, random: &mut Random) -> Result<(), Difference> 
                 &frame,
                 &mut lent.answer,
             )
+        })?;
+
+        let (numbers, mut lent) = all(random, &[1, 1, 8, 1], &[0], calls::SHOWN);
+        lent.buffer = store.clone();
+        pair.both("show", &numbers, &frame, &mut lent, |calls, lent| {
+            calls.show(&numbers, &frame, &lent.buffer, &mut lent.answer)
         })?;
 
         let (numbers, mut lent) = all(random, &channel, &[0, 0, 0, 0], 0);

@@ -26,13 +26,16 @@ fn the_reference_agrees_with_itself_and_everything_is_met() {
         }
     }
     for (what, numbers) in [
-        ("header found", 0..=2),
+        ("header found", 1..=3),
+        ("well formed", 1..=2),
         // A put ends with a full zone or a taken packet, or both.
         ("full and taken", 1..=3),
+        ("flush", 1..=2),
         ("reason", 0..=3),
-        ("step", 0..=3),
+        ("step", 1..=4),
         ("packet lies in", 0..=2),
-        ("verdict", 0..=1),
+        ("shown in", 0..=2),
+        ("verdict", 1..=2),
         ("loss flag", 0..=1),
     ] {
         for number in numbers {
@@ -85,6 +88,12 @@ impl Calls for Impostor {
         })
     }
 
+    fn well_formed(&self, limit: u64, packet: &[u8], answer: &mut [u64]) -> u64 {
+        self.made("well_formed", &mut [], &mut [], answer, |_, _, answer| {
+            Reference.well_formed(limit, packet, answer)
+        })
+    }
+
     fn wrap(
         &self,
         limit: u64,
@@ -115,6 +124,16 @@ impl Calls for Impostor {
         self.made("write_space", &mut [], octets, &mut [], |_, octets, _| {
             Reference.write_space(header, octets)
         })
+    }
+
+    fn unit_part(&self, unwrapped: &[u64], packet: &[u8], answer: &mut [u64]) -> u64 {
+        self.made("unit_part", &mut [], &mut [], answer, |_, _, answer| {
+            Reference.unit_part(unwrapped, packet, answer)
+        })
+    }
+
+    fn mux_begin(&self, record: &mut [u64]) -> u64 {
+        self.made("mux_begin", record, &mut [], &mut [], |record, _, _| Reference.mux_begin(record))
     }
 
     fn mux_put(
@@ -171,6 +190,12 @@ impl Calls for Impostor {
     ) -> u64 {
         self.made("extractor_step", record, store, answer, |record, store, answer| {
             Reference.extractor_step(settings, record, store, frame, answer)
+        })
+    }
+
+    fn show(&self, step: &[u64], frame: &[u8], store: &[u8], answer: &mut [u64]) -> u64 {
+        self.made("show", &mut [], &mut [], answer, |_, _, answer| {
+            Reference.show(step, frame, store, answer)
         })
     }
 
@@ -243,7 +268,7 @@ fn an_extractor_that_refuses_all_frames() {
         if outcome.call == "extractor_enter" && *outcome.refusal == 0 {
             *outcome.refusal = 7;
             outcome.record[..4].copy_from_slice(&lent[..4]);
-            outcome.answer[..5].fill(0);
+            outcome.answer[..6].fill(0);
         }
     });
     assert_eq!(call, "extractor_enter");
@@ -253,7 +278,7 @@ fn an_extractor_that_refuses_all_frames() {
 fn an_extractor_that_calls_each_frame_spent() {
     let call = seen(|lent, _, outcome| {
         if outcome.call == "extractor_step" && *outcome.refusal == 0 {
-            outcome.answer[..4].fill(0);
+            outcome.answer[..4].copy_from_slice(&[4, 0, 0, 0]);
             outcome.record[..4].copy_from_slice(&[1, lent[1], 0, 0]);
         }
     });
@@ -264,9 +289,9 @@ fn an_extractor_that_calls_each_frame_spent() {
 fn an_extractor_that_invents_its_lost_number() {
     let call = seen(|_, _, outcome| {
         if outcome.call == "extractor_enter"
-            && outcome.answer.get(2).map_or(false, |&lost| lost > 1)
+            && outcome.answer.get(3).map_or(false, |&lost| lost > 1)
         {
-            outcome.answer[2] -= 1;
+            outcome.answer[3] -= 1;
         }
     });
     assert_eq!(call, "extractor_enter");
@@ -276,7 +301,7 @@ fn an_extractor_that_invents_its_lost_number() {
 fn an_extractor_that_never_says_what_it_dropped() {
     let call = seen(|_, _, outcome| {
         if outcome.call == "extractor_enter" && *outcome.refusal == 0 {
-            outcome.answer[3] = 0;
+            outcome.answer[4] = 0;
         }
     });
     assert_eq!(call, "extractor_enter");
@@ -299,7 +324,7 @@ fn an_extractor_that_writes_past_the_packet_in_the_store() {
 fn a_judge_that_always_passes() {
     let call = seen(|_, _, outcome| {
         if outcome.call == "judge_close" && *outcome.refusal == 0 {
-            outcome.answer[..2].fill(0);
+            outcome.answer[..2].copy_from_slice(&[1, 0]);
         }
     });
     assert_eq!(call, "judge_close");
@@ -376,4 +401,24 @@ fn a_reader_of_bits_that_never_sees_a_loss() {
         }
     });
     assert_eq!(call, "bits_read");
+}
+
+#[test]
+fn a_part_that_runs_past_the_end_is_shown() {
+    let call = seen(|_, _, outcome| {
+        if outcome.call == "show" && *outcome.refusal == 0 && outcome.answer[0] == 0 {
+            outcome.answer[0] = 1;
+        }
+    });
+    assert_eq!(call, "show");
+}
+
+#[test]
+fn any_octets_are_well_formed() {
+    let call = seen(|_, _, outcome| {
+        if outcome.call == "well_formed" && *outcome.refusal == 0 {
+            outcome.answer[0] = 1;
+        }
+    });
+    assert_eq!(call, "well_formed");
 }

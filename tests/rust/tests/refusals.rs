@@ -383,10 +383,10 @@ fn numbers_that_are_no_record() {
         [u64::MAX, 0, 0, 0],
         [1 << 8, 0, 0, 0],
     ] {
-        let (mut after, mut answer) = (record, [7; 5]);
+        let (mut after, mut answer) = (record, [7; 6]);
         let refusal =
             Reference.extractor_enter(&settings, &mut after, &[0; 64], &frame, &mut answer);
-        assert_eq!((refusal, after, answer), (10, record, [0; 5]));
+        assert_eq!((refusal, after, answer), (10, record, [0; 6]));
         let refusal =
             Reference.extractor_step(&settings, &mut after, &mut [0; 64], &frame, &mut answer);
         assert_eq!((refusal, after), (10, record));

@@ -140,14 +140,14 @@ fn by_library(octets: &[u8]) -> Heard {
     for frame in octets.chunks_exact(CHANNEL.frame_length()) {
         let refusal = Library.extractor_enter(&settings, &mut record, &store, frame, &mut entered);
         assert_eq!(refusal, 0, "a frame of the channel");
-        heard.lost += entered[2];
+        heard.lost += entered[3];
         loop {
             let refusal =
                 Library.extractor_step(&settings, &mut record, &mut store, frame, &mut step);
             assert_eq!(refusal, 0, "a step at its moment");
             let [what, place, start, size] = step;
             match what {
-                0 => break,
+                4 => break,
                 1 | 2 => {
                     let buffer = if place == 1 { frame } else { &store[..] };
                     heard.packet(&buffer[start as usize..][..size as usize]);
@@ -187,7 +187,7 @@ fn said(calls: &dyn Calls, (record, store): &mut State, frame: &[u8]) -> Vec<u64
         let mut step = [0; calls::STEP];
         said.push(calls.extractor_step(&settings, record, store, frame, &mut step));
         said.extend(step);
-        if step[0] == 0 {
+        if step[0] == 4 {
             break;
         }
     }
