@@ -7,6 +7,9 @@ ghost use lib.Dec.{leb};
 ghost use Rattle.octets.specs.Basics.{over};
 ghost use Rattle.exports.specs.Left.{left, told, kept, bit, octet-of, count-of};
 
+// The refusal of an array that is short.
+pub(crate) const ROOM: u64 = 2;
+
 // A yes or no as a number.
 pub(crate) fn flag(yes: bool) -> u64
     ensures { λ r. ⌜ r ≡ bit yes ⌝ }

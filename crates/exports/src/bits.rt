@@ -9,6 +9,7 @@ ghost use Rattle.bitstream.specs.Bitstream.{leading-octets};
 ghost use Rattle.frames.specs.declared.bits.BitSettings.{BitSettings};
 ghost use Rattle.exports.specs.Left.{left};
 ghost use Rattle.exports.specs.Bits.{bit-settings-of, bits-short, writer-of, write-leaves, unread, reader-with, reader-of, reader-numbers, read-numbers, read-leaves};
+use crate::arrays::ROOM;
 use crate::arrays::count_of;
 use crate::arrays::entry;
 use crate::arrays::flag;
@@ -22,6 +23,13 @@ use bitstream::Reading;
 use bitstream::Writer;
 use frames::ZONE_AT;
 use frames::bits::BitSettings;
+
+// The entries of each record, and of the answer.
+const WRITER_ENTRIES: usize = 1;
+
+const READER_ENTRIES: usize = 2;
+
+const BITS_ENTRIES: usize = 6;
 
 // Whether an array is short: of settings, or of a record or an answer that has so many numbers.
 fn bits_short(settings: usize, record: usize, kept: usize, answer: usize, room: usize) -> bool
@@ -60,8 +68,8 @@ pub extern "C" fn itz_bits_write(
 ) -> u64
     ensures { λ r. ⌜ left r (now («record» .exit)) (now (frame .exit)) [] ≡ write-leaves (now (settings .entry)) (now («record» .entry)) (now (bits .entry)) n (now (frame .entry)) ⌝ }
 {
-    if bits_short(settings.len(), record.len(), 1, 0, 0) {
-        return 2;
+    if bits_short(settings.len(), record.len(), WRITER_ENTRIES, 0, 0) {
+        return ROOM;
     }
     let settings = bit_settings_of(settings);
     let written = bitstream::write(settings, writer_of(record), bits, n as usize, frame);
@@ -141,8 +149,14 @@ pub extern "C" fn itz_bits_read(
 ) -> u64
     ensures { λ r. ⌜ left r (now («record» .exit)) [] (now (answer .exit)) ≡ read-leaves (now (settings .entry)) (now («record» .entry)) (now (frame .entry)) (now (answer .entry)) ⌝ }
 {
-    if bits_short(settings.len(), record.len(), 2, answer.len(), 6) {
-        return 2;
+    if bits_short(
+        settings.len(),
+        record.len(),
+        READER_ENTRIES,
+        answer.len(),
+        BITS_ENTRIES,
+    ) {
+        return ROOM;
     }
     let settings = bit_settings_of(settings);
     let reading = bitstream::read(settings, reader_of(record), frame);

@@ -6,6 +6,7 @@ ghost use lib.ListN.{length};
 ghost use Rattle.extractor.specs.Answers.{entered-numbers, packet-or-idle, found-numbers};
 ghost use Rattle.exports.specs.Left.{left};
 ghost use Rattle.exports.specs.Extract.{unreached, extractor-with, extractor-of, extractor-numbers, enter-numbers, enter-leaves, step-numbers, step-leaves, part-numbers, show-numbers, show-leaves};
+use crate::arrays::ROOM;
 use crate::arrays::count_of;
 use crate::arrays::entry;
 use crate::arrays::inside;
@@ -17,11 +18,29 @@ use extractor::Entered;
 use extractor::Extractor;
 use extractor::Found;
 
-const ENTERED: usize = 6;
+// The entries of each answer.
+const ENTERED_ENTRIES: usize = 6;
 
-const STEP: usize = 4;
+const STEP_ENTRIES: usize = 4;
 
-const SHOWN: usize = 3;
+const SHOWN_ENTRIES: usize = 3;
+
+// A frame is entered.
+const ENTERED: u64 = 1;
+
+// What a step found.
+const PACKET: u64 = 1;
+
+const IDLE: u64 = 2;
+
+const DAMAGED: u64 = 3;
+
+const SPENT: u64 = 4;
+
+// Where a packet lies.
+const IN_FRAME: u64 = 1;
+
+const IN_STORE: u64 = 2;
 
 // A record that no call reaches.
 fn unreached() -> Extractor
@@ -90,7 +109,7 @@ fn entered_said(entered: Entered) -> [u64; 7]
         Entered::Refused { refusal } => [refusal as u64, 0, 0, 0, 0, 0, 0],
         Entered::Taken { entry } => [
             0,
-            1,
+            ENTERED,
             entry.count as u64,
             entry.replay as u64,
             entry.lost as u64,
@@ -110,8 +129,8 @@ pub extern "C" fn itz_extractor_enter(
 ) -> u64
     ensures { λ r. ⌜ left r (now («record» .exit)) [] (now (answer .exit)) ≡ enter-leaves (now (settings .entry)) (now («record» .entry)) (now (store .entry)) (now (frame .entry)) (now (answer .entry)) ⌝ }
 {
-    if is_short(settings.len(), record.len(), answer.len(), ENTERED) {
-        return 2;
+    if is_short(settings.len(), record.len(), answer.len(), ENTERED_ENTRIES) {
+        return ROOM;
     }
     let entering = extractor::enter(settings_of(settings), extractor_of(record), store, frame);
     let entered = entering.entered;
@@ -121,11 +140,11 @@ pub extern "C" fn itz_extractor_enter(
     leave(record, &state, answer, &said)
 }
 
-// What a packet is: 1, and 2 where it is idle.
+// What a packet is.
 fn packet_number(idle: bool) -> u64
     ensures { λ r. ⌜ r ≡ packet-or-idle idle ⌝ }
 {
-    if idle { 2 } else { 1 }
+    if idle { IDLE } else { PACKET }
 }
 
 fn step_said(found: Found) -> [u64; 5]
@@ -134,11 +153,11 @@ fn step_said(found: Found) -> [u64; 5]
     match found {
         Found::Refused { refusal } => [refusal as u64, 0, 0, 0, 0],
         Found::InFrame { start, size, idle } => {
-            [0, packet_number(idle), 1, start as u64, size as u64]
+            [0, packet_number(idle), IN_FRAME, start as u64, size as u64]
         }
-        Found::InStore { size, idle } => [0, packet_number(idle), 2, 0, size as u64],
-        Found::Damaged => [0, 3, 0, 0, 0],
-        Found::Spent => [0, 4, 0, 0, 0],
+        Found::InStore { size, idle } => [0, packet_number(idle), IN_STORE, 0, size as u64],
+        Found::Damaged => [0, DAMAGED, 0, 0, 0],
+        Found::Spent => [0, SPENT, 0, 0, 0],
     }
 }
 
@@ -152,8 +171,8 @@ pub extern "C" fn itz_extractor_step(
 ) -> u64
     ensures { λ r. ⌜ left r (now («record» .exit)) (now (store .exit)) (now (answer .exit)) ≡ step-leaves (now (settings .entry)) (now («record» .entry)) (now (store .entry)) (now (frame .entry)) (now (answer .entry)) ⌝ }
 {
-    if is_short(settings.len(), record.len(), answer.len(), STEP) {
-        return 2;
+    if is_short(settings.len(), record.len(), answer.len(), STEP_ENTRIES) {
+        return ROOM;
     }
     let moved = extractor::step(settings_of(settings), extractor_of(record), store, frame);
     let found = moved.found;
@@ -181,11 +200,11 @@ fn show_numbers(step: &[u64], frame: usize, store: usize) -> [u64; 3]
     let place = entry(step, 1);
     let start = entry(step, 2);
     let size = entry(step, 3);
-    if place == 1 {
-        return part_numbers(1, frame, start, size);
+    if place == IN_FRAME {
+        return part_numbers(IN_FRAME, frame, start, size);
     }
-    if place == 2 {
-        return part_numbers(2, store, start, size);
+    if place == IN_STORE {
+        return part_numbers(IN_STORE, store, start, size);
     }
     [0; 3]
 }
@@ -194,8 +213,8 @@ fn show_numbers(step: &[u64], frame: usize, store: usize) -> [u64; 3]
 pub extern "C" fn itz_show(step: &[u64], frame: &[u8], store: &[u8], answer: &mut [u64]) -> u64
     ensures { λ r. ⌜ left r [] [] (now (answer .exit)) ≡ show-leaves (now (step .entry)) (now (frame .entry)) (now (store .entry)) (now (answer .entry)) ⌝ }
 {
-    if (step.len() < STEP) | (answer.len() < SHOWN) {
-        return 2;
+    if (step.len() < STEP_ENTRIES) | (answer.len() < SHOWN_ENTRIES) {
+        return ROOM;
     }
     let numbers = show_numbers(step, frame.len(), store.len());
     put(answer, &numbers);

@@ -4,6 +4,7 @@ ghost use mathlib.Core.List.{[], _∷_};
 ghost use Rattle.judge.specs.Calls.{close-says};
 ghost use Rattle.exports.specs.Left.{left};
 ghost use Rattle.exports.specs.Judging.{unjudged, judge-with, judge-of, judge-numbers, judge-leaves, close-numbers, close-leaves};
+use crate::arrays::ROOM;
 use crate::arrays::count_of;
 use crate::arrays::entry;
 use crate::arrays::keep;
@@ -12,6 +13,13 @@ use crate::channel::is_short;
 use crate::channel::settings_of;
 use judge::Closed;
 use judge::Judge;
+
+// The entries of the answer.
+const VERDICT_ENTRIES: usize = 2;
+
+const PASS: u64 = 1;
+
+const FAULT: u64 = 2;
 
 // A record that no call reaches.
 fn unjudged() -> Judge
@@ -74,7 +82,7 @@ pub extern "C" fn itz_judge_frame(
     ensures { λ r. ⌜ left r (now («record» .exit)) (now (store .exit)) [] ≡ judge-leaves (now (settings .entry)) (now («record» .entry)) (now (store .entry)) (now (frame .entry)) ⌝ }
 {
     if is_short(settings.len(), record.len(), 0, 0) {
-        return 2;
+        return ROOM;
     }
     let judged = judge::frame(settings_of(settings), judge_of(record), store, frame);
     let next = judged.next;
@@ -90,8 +98,8 @@ fn closed_said(closed: Closed) -> [u64; 3]
 {
     match closed {
         Closed::Refused { refusal } => [refusal as u64, 0, 0],
-        Closed::Pass => [0, 1, 0],
-        Closed::Fault { at } => [0, 2, at as u64],
+        Closed::Pass => [0, PASS, 0],
+        Closed::Fault { at } => [0, FAULT, at as u64],
     }
 }
 
@@ -104,8 +112,8 @@ pub extern "C" fn itz_judge_close(
 ) -> u64
     ensures { λ r. ⌜ left r [] [] (now (answer .exit)) ≡ close-leaves (now (settings .entry)) (now («record» .entry)) (now (store .entry)) (now (answer .entry)) ⌝ }
 {
-    if is_short(settings.len(), record.len(), answer.len(), 2) {
-        return 2;
+    if is_short(settings.len(), record.len(), answer.len(), VERDICT_ENTRIES) {
+        return ROOM;
     }
     let said = closed_said(judge::close(settings_of(settings), judge_of(record), store));
     tell(answer, &said)

@@ -6,6 +6,7 @@ ghost use Rattle.octets.specs.Basics.{pick};
 ghost use Rattle.multiplexer.specs.Calls.{to-put, to-flush, to-idle, answers};
 ghost use Rattle.exports.specs.Left.{left};
 ghost use Rattle.exports.specs.Mux.{mux-of, mux-numbers, begin-leaves, put-numbers, flush-numbers, no-numbers, mux-leaves};
+use crate::arrays::ROOM;
 use crate::arrays::count_of;
 use crate::arrays::entry;
 use crate::arrays::flag;
@@ -17,7 +18,17 @@ use crate::channel::settings_of;
 use multiplexer::Mux;
 use multiplexer::Reply;
 
-const MUX: usize = 4;
+// The entries of the record, and of each answer.
+const MUX_ENTRIES: usize = 4;
+
+const PUT_ENTRIES: usize = 2;
+
+const FLUSH_ENTRIES: usize = 1;
+
+// What a flush did.
+const NOTHING: u64 = 1;
+
+const FRAME: u64 = 2;
 
 fn mux_of(numbers: &[u64]) -> Mux
     ensures { λ r. ⌜ r ≡ mux-of (now (numbers .entry)) ⌝ }
@@ -45,8 +56,8 @@ fn mux_numbers(m: Mux) -> [u64; 4]
 pub extern "C" fn itz_mux_begin(record: &mut [u64]) -> u64
     ensures { λ r. ⌜ left r (now («record» .exit)) [] [] ≡ begin-leaves (now («record» .entry)) ⌝ }
 {
-    if record.len() < MUX {
-        return 2;
+    if record.len() < MUX_ENTRIES {
+        return ROOM;
     }
     let numbers = mux_numbers(multiplexer::begin());
     put(record, &numbers);
@@ -73,11 +84,11 @@ fn put_said(reply: Reply) -> [u64; 3]
     }
 }
 
-// What a flush did: 2 where it wrote a frame, and 1 where nothing was begun.
+// What a flush did: it wrote a frame, or nothing was begun.
 fn flush_number(full: bool) -> u64
     ensures { λ r. ⌜ r ≡ pick {A = ℕ} full 2 1 ⌝ }
 {
-    if full { 2 } else { 1 }
+    if full { FRAME } else { NOTHING }
 }
 
 // The refusal, and the number of a flush's answer behind it.
@@ -100,8 +111,8 @@ pub extern "C" fn itz_mux_put(
 ) -> u64
     ensures { λ r. ⌜ left r (now («record» .exit)) (now (frame .exit)) (now (answer .exit)) ≡ mux-leaves (to-put (now (packet .entry))) 2 put-numbers (now (settings .entry)) (now («record» .entry)) (now (frame .entry)) (now (answer .entry)) ⌝ }
 {
-    if is_short(settings.len(), record.len(), answer.len(), 2) {
-        return 2;
+    if is_short(settings.len(), record.len(), answer.len(), PUT_ENTRIES) {
+        return ROOM;
     }
     let reply = multiplexer::put(settings_of(settings), mux_of(record), packet, frame);
     let state = next_mux(reply);
@@ -118,8 +129,8 @@ pub extern "C" fn itz_mux_flush(
 ) -> u64
     ensures { λ r. ⌜ left r (now («record» .exit)) (now (frame .exit)) (now (answer .exit)) ≡ mux-leaves to-flush 1 flush-numbers (now (settings .entry)) (now («record» .entry)) (now (frame .entry)) (now (answer .entry)) ⌝ }
 {
-    if is_short(settings.len(), record.len(), answer.len(), 1) {
-        return 2;
+    if is_short(settings.len(), record.len(), answer.len(), FLUSH_ENTRIES) {
+        return ROOM;
     }
     let reply = multiplexer::flush(settings_of(settings), mux_of(record), frame);
     let state = next_mux(reply);
@@ -132,7 +143,7 @@ pub extern "C" fn itz_mux_idle(settings: &[u64], record: &mut [u64], frame: &mut
     ensures { λ r. ⌜ left r (now («record» .exit)) (now (frame .exit)) [] ≡ mux-leaves to-idle 0 no-numbers (now (settings .entry)) (now («record» .entry)) (now (frame .entry)) [] ⌝ }
 {
     if is_short(settings.len(), record.len(), 0, 0) {
-        return 2;
+        return ROOM;
     }
     let reply = multiplexer::idle_zone(settings_of(settings), mux_of(record), frame);
     let state = next_mux(reply);

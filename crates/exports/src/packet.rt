@@ -9,6 +9,7 @@ ghost use Rattle.packets.specs.Header.{answer, version-of};
 ghost use Rattle.packets.specs.Wrap.{wraps, unwraps};
 ghost use Rattle.exports.specs.Left.{left};
 ghost use Rattle.exports.specs.Packet.{kind-number, header-numbers, header-leaves, formed-leaves, wrap-numbers, wrap-leaves, unwrap-numbers, unwrap-leaves, unit-numbers, unit-leaves};
+use crate::arrays::ROOM;
 use crate::arrays::entry;
 use crate::arrays::flag;
 use crate::arrays::inside;
@@ -20,22 +21,40 @@ use packets::Kind;
 use packets::Unwrapped;
 use packets::Wrapped;
 
-const HEADER: usize = 6;
+// The entries of each answer.
+const HEADER_ENTRIES: usize = 6;
 
-const FORMED: usize = 1;
+const FORMED_ENTRIES: usize = 1;
 
-const WRAPPED: usize = 1;
+const WRAPPED_ENTRIES: usize = 1;
 
-const UNWRAPPED: usize = 4;
+const UNWRAPPED_ENTRIES: usize = 4;
 
-const UNIT: usize = 2;
+const UNIT_ENTRIES: usize = 2;
+
+// What the header reader found.
+const MORE: u64 = 1;
+
+const DAMAGED: u64 = 2;
+
+const WHOLE: u64 = 3;
+
+// The kinds of packet.
+const SPACE: u64 = 1;
+
+const ENCAPSULATION: u64 = 2;
+
+// Whether a packet is well formed.
+const FORMED: u64 = 1;
+
+const NOT_FORMED: u64 = 2;
 
 fn kind_number(kind: Kind) -> u64
     ensures { λ r. ⌜ r ≡ kind-number (version-of kind) ⌝ }
 {
     match kind {
-        Kind::Space => 1,
-        Kind::Encapsulation => 2,
+        Kind::Space => SPACE,
+        Kind::Encapsulation => ENCAPSULATION,
     }
 }
 
@@ -45,8 +64,8 @@ fn header_said(header: Header) -> [u64; 7]
 {
     match header {
         Header::Refused { refusal } => [refusal as u64, 0, 0, 0, 0, 0, 0],
-        Header::More => [0, 1, 0, 0, 0, 0, 0],
-        Header::Damaged => [0, 2, 0, 0, 0, 0, 0],
+        Header::More => [0, MORE, 0, 0, 0, 0, 0],
+        Header::Damaged => [0, DAMAGED, 0, 0, 0, 0, 0],
         Header::Whole {
             kind,
             key,
@@ -55,7 +74,7 @@ fn header_said(header: Header) -> [u64; 7]
             total,
         } => [
             0,
-            3,
+            WHOLE,
             kind_number(kind),
             flag(idle),
             key as u64,
@@ -69,29 +88,29 @@ fn header_said(header: Header) -> [u64; 7]
 pub extern "C" fn itz_read_header(limit: u64, octets: &[u8], answer: &mut [u64]) -> u64
     ensures { λ r. ⌜ left r [] [] (now (answer .exit)) ≡ header-leaves limit (now (octets .entry)) (now (answer .entry)) ⌝ }
 {
-    if answer.len() < HEADER {
-        return 2;
+    if answer.len() < HEADER_ENTRIES {
+        return ROOM;
     }
     let said = header_said(packets::read_header(limit as usize, octets));
     tell(answer, &said)
 }
 
-// What a packet is: 1 well formed, 2 not; 0 where the limit is refused.
+// What a packet is; 0 where the limit is refused.
 fn formed_number(refusal: u64, formed: bool) -> u64
     ensures { λ r. ⌜ r ≡ pick (eqb refusal 0) (pick {A = ℕ} formed 1 2) 0 ⌝ }
 {
     if refusal != 0 {
         return 0;
     }
-    if formed { 1 } else { 2 }
+    if formed { FORMED } else { NOT_FORMED }
 }
 
 #[no_mangle]
 pub extern "C" fn itz_well_formed(limit: u64, packet: &[u8], answer: &mut [u64]) -> u64
     ensures { λ r. ⌜ left r [] [] (now (answer .exit)) ≡ formed-leaves limit (now (packet .entry)) (now (answer .entry)) ⌝ }
 {
-    if answer.len() < FORMED {
-        return 2;
+    if answer.len() < FORMED_ENTRIES {
+        return ROOM;
     }
     let refusal = header_said(packets::read_header(limit as usize, packet))[0];
     let formed = packets::well_formed(limit as usize, packet);
@@ -120,8 +139,8 @@ pub extern "C" fn itz_wrap(
 ) -> u64
     ensures { λ r. ⌜ left r [] (now (packet .exit)) (now (answer .exit)) ≡ wrap-leaves limit protocol extension (now («data» .entry)) (now (packet .entry)) (now (answer .entry)) ⌝ }
 {
-    if answer.len() < WRAPPED {
-        return 2;
+    if answer.len() < WRAPPED_ENTRIES {
+        return ROOM;
     }
     let protocol = octet_of(protocol);
     let extension = octet_of(extension);
@@ -153,8 +172,8 @@ fn unwrapped_said(unwrapped: Unwrapped) -> [u64; 5]
 pub extern "C" fn itz_unwrap(limit: u64, packet: &[u8], answer: &mut [u64]) -> u64
     ensures { λ r. ⌜ left r [] [] (now (answer .exit)) ≡ unwrap-leaves limit (now (packet .entry)) (now (answer .entry)) ⌝ }
 {
-    if answer.len() < UNWRAPPED {
-        return 2;
+    if answer.len() < UNWRAPPED_ENTRIES {
+        return ROOM;
     }
     let said = unwrapped_said(packets::unwrap(limit as usize, packet));
     tell(answer, &said)
@@ -177,8 +196,8 @@ fn unit_numbers(unwrapped: &[u64], room: usize) -> [u64; 2]
 pub extern "C" fn itz_unit_part(unwrapped: &[u64], packet: &[u8], answer: &mut [u64]) -> u64
     ensures { λ r. ⌜ left r [] [] (now (answer .exit)) ≡ unit-leaves (now (unwrapped .entry)) (now (packet .entry)) (now (answer .entry)) ⌝ }
 {
-    if (unwrapped.len() < UNWRAPPED) | (answer.len() < UNIT) {
-        return 2;
+    if (unwrapped.len() < UNWRAPPED_ENTRIES) | (answer.len() < UNIT_ENTRIES) {
+        return ROOM;
     }
     let numbers = unit_numbers(unwrapped, packet.len());
     put(answer, &numbers);

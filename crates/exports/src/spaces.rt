@@ -4,15 +4,17 @@ ghost use mathlib.Core.List.{[], _∷_};
 ghost use Rattle.space.specs.Space.{space-reads};
 ghost use Rattle.exports.specs.Left.{left};
 ghost use Rattle.exports.specs.Spaces.{space-numbers, read-space-leaves, half-of, version-for, header-of, write-space-leaves};
+use crate::arrays::ROOM;
 use crate::arrays::entry;
 use crate::arrays::octet_of;
 use crate::arrays::tell;
 use space::SpaceHeader;
 use space::SpaceRead;
 
-const SPACE: usize = 8;
+// The entries of the answer, and of a header.
+const SPACE_ENTRIES: usize = 8;
 
-const HEADER: usize = 7;
+const HEADER_ENTRIES: usize = 7;
 
 // What the length field says less than the packet's length.
 const LENGTH_LESS: u64 = 7;
@@ -41,8 +43,8 @@ fn space_said(read: SpaceRead) -> [u64; 9]
 pub extern "C" fn itz_read_space(octets: &[u8], answer: &mut [u64]) -> u64
     ensures { λ r. ⌜ left r [] [] (now (answer .exit)) ≡ read-space-leaves (now (octets .entry)) (now (answer .entry)) ⌝ }
 {
-    if answer.len() < SPACE {
-        return 2;
+    if answer.len() < SPACE_ENTRIES {
+        return ROOM;
     }
     let said = space_said(space::read_space(octets));
     tell(answer, &said)
@@ -85,8 +87,8 @@ fn header_of(numbers: &[u64]) -> SpaceHeader
 pub extern "C" fn itz_write_space(header: &[u64], octets: &mut [u8]) -> u64
     ensures { λ r. ⌜ left r [] (now (octets .exit)) [] ≡ write-space-leaves (now (header .entry)) (now (octets .entry)) ⌝ }
 {
-    if header.len() < HEADER {
-        return 2;
+    if header.len() < HEADER_ENTRIES {
+        return ROOM;
     }
     space::write_space(header_of(header), octets) as u64
 }
