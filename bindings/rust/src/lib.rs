@@ -1,0 +1,28 @@
+//! Packets in and out of the AOS telemetry frames of one virtual channel.
+//!
+//! A safe face on the proved library: what has to be remembered between calls is kept here, and every call's refusal is an
+//! [`Refusal`]. Two packets into frames, out of them again, and the verdict on the run:
+//!
+//! ```
+#![doc = include_str!("../examples/sample.rs")]
+//! ```
+#![warn(missing_docs)]
+
+mod bits;
+mod extractor;
+mod ffi;
+mod judge;
+mod multiplexer;
+mod packet;
+mod refusal;
+mod settings;
+mod space;
+
+pub use bits::{BitReader, BitSettings, BitWriter, Bits};
+pub use extractor::{Entered, Event, Events, Extractor, Packet, Reason};
+pub use judge::{judge, Judge, Verdict};
+pub use multiplexer::{multiplex, Multiplexer};
+pub use packet::{read_header, unwrap, well_formed, wrap, Front, Header, Kind, Unwrapped};
+pub use refusal::Refusal;
+pub use settings::Settings;
+pub use space::SpaceHeader;

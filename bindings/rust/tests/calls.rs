@@ -1,0 +1,222 @@
+//! Every call, where it is answered and where it is refused.
+
+use std::borrow::Cow;
+
+use itzahuemo::*;
+
+const SPACE: [u8; 8] = [0x00, 0x05, 0xC0, 0x00, 0x00, 0x01, 0xAA, 0xBB];
+const ENCAPSULATION: [u8; 5] = [0xE9, 0x05, 0x11, 0x22, 0x33];
+const LIMIT: usize = 1_024;
+
+fn settings() -> Settings {
+    Settings::new(66, 3, 10, LIMIT).unwrap()
+}
+
+fn frames() -> Vec<Vec<u8>> {
+    multiplex(settings(), [&SPACE[..], &ENCAPSULATION[..]]).unwrap()
+}
+
+fn entered(event: Option<Event>) -> Entered {
+    match event {
+        Some(Event::Entered(entered)) => entered,
+        other => panic!("the first event of a frame: {other:?}"),
+    }
+}
+
+#[test]
+fn settings_are_those_of_the_rules() {
+    assert_eq!(settings().frame_length(), 18);
+    assert_eq!(settings().fill(), 0x55);
+    assert_eq!(settings().with_fill(7).fill(), 7);
+    assert!(Settings::new(255, 62, 2_046, 65_542).is_ok());
+    for (channel, zone, limit) in
+        [(63, 10, 1_024), (3, 0, 1_024), (3, 2_047, 4_096), (3, 10, 9), (3, 1, 6), (3, 10, 65_543)]
+    {
+        assert_eq!(Settings::new(66, channel, zone, limit), Err(Refusal::Setting));
+    }
+    assert!(BitSettings::new(66, 3, 2_047).is_ok());
+    assert_eq!(BitSettings::new(66, 3, 2_048), Err(Refusal::Setting));
+    assert_eq!(BitSettings::new(66, 63, 1), Err(Refusal::Setting));
+}
+
+#[test]
+fn headers_are_read() {
+    let header = Header { kind: Kind::Space { apid: 5 }, idle: false, length: 6, total: 8 };
+    assert_eq!(read_header(LIMIT, &SPACE), Ok(Front::Header(header)));
+    let kind = Kind::Encapsulation { protocol: 0 };
+    let idle = Header { kind, idle: true, length: 1, total: 1 };
+    assert_eq!(read_header(LIMIT, &[0xE0]), Ok(Front::Header(idle)));
+    assert_eq!(read_header(LIMIT, &SPACE[..5]), Ok(Front::More));
+    assert_eq!(read_header(LIMIT, &[]), Ok(Front::More));
+    assert_eq!(read_header(LIMIT, &[0x33]), Ok(Front::Damaged));
+    assert_eq!(read_header(6, &SPACE), Err(Refusal::Setting));
+    assert_eq!(well_formed(LIMIT, &SPACE), Ok(true));
+    assert_eq!(well_formed(LIMIT, &SPACE[..7]), Ok(false));
+    assert_eq!(well_formed(7, &SPACE), Ok(false));
+    assert_eq!(well_formed(6, &SPACE), Err(Refusal::Setting));
+}
+
+#[test]
+fn data_units_are_wrapped() {
+    assert_eq!(wrap(LIMIT, 2, 0, &[0x11, 0x22, 0x33]).unwrap(), ENCAPSULATION);
+    assert_eq!(wrap(LIMIT, 6, 5, &[0xDD]).unwrap(), [0xFA, 0x05, 0x00, 0x05, 0xDD]);
+    assert_eq!(wrap(LIMIT, 0, 0, &[1]), Err(Refusal::Setting));
+    assert_eq!(wrap(LIMIT, 2, 0, &[]), Err(Refusal::Packet));
+    let unwrapped = Unwrapped { protocol: 2, extension: 0, data: &[0x11, 0x22, 0x33] };
+    assert_eq!(unwrap(LIMIT, &ENCAPSULATION), Ok(unwrapped));
+    assert_eq!(unwrap(LIMIT, &[0xE9, 0x02]).unwrap().data, []);
+    assert_eq!(unwrap(LIMIT, &SPACE), Err(Refusal::Packet));
+    assert_eq!(unwrap(LIMIT, &[0xEA, 0x05, 0x00, 0x05, 0xDD]), Err(Refusal::Spare));
+    for size in [1, 253, 254, 1_016] {
+        let data = vec![0xA5; size];
+        let packet = wrap(65_542, 3, 0, &data).unwrap();
+        assert_eq!(packet.len(), size + if size < 254 { 2 } else { 4 });
+        assert_eq!(unwrap(65_542, &packet).unwrap().data, data);
+    }
+}
+
+#[test]
+fn space_headers_are_read_and_written() {
+    let header =
+        SpaceHeader { apid: 5, sequence_flags: 3, length_field: 1, ..SpaceHeader::default() };
+    assert_eq!(SpaceHeader::read(&SPACE), Ok(header));
+    assert_eq!(header.to_octets().unwrap(), SPACE[..6]);
+    assert_eq!(header.total(), 8);
+    let full = SpaceHeader {
+        version: 0,
+        packet_type: 1,
+        secondary_header: 1,
+        apid: 2_047,
+        sequence_flags: 3,
+        sequence_count: 16_383,
+        length_field: 65_535,
+    };
+    assert_eq!(full.to_octets(), Ok([0x1F, 0xFF, 0xFF, 0xFF, 0xFF, 0xFF]));
+    assert_eq!(SpaceHeader::read(&full.to_octets().unwrap()), Ok(full));
+    assert_eq!(SpaceHeader { apid: 2_048, ..header }.to_octets(), Err(Refusal::Setting));
+    assert_eq!(SpaceHeader { version: 1, ..header }.to_octets(), Err(Refusal::Setting));
+    assert_eq!(header.write(&mut [0; 5]), Err(Refusal::Room));
+    assert_eq!(SpaceHeader::read(&SPACE[..5]), Err(Refusal::Packet));
+    assert_eq!(SpaceHeader::read(&ENCAPSULATION), Err(Refusal::Packet));
+}
+
+#[test]
+fn packets_are_multiplexed() {
+    let mut multiplexer = Multiplexer::new(settings());
+    assert_eq!(multiplexer.flush(), Ok(None));
+    let idle = multiplexer.idle().unwrap();
+    assert_eq!(idle[..8], [0x50, 0x83, 0, 0, 0, 0, 0x07, 0xFE]);
+    assert_eq!(idle[8..], [0x55; 10]);
+    assert_eq!(multiplexer.put(&SPACE[..7]), Err(Refusal::Packet));
+    assert!(multiplexer.put(&SPACE).unwrap().is_empty());
+    assert_eq!(multiplexer.idle(), Err(Refusal::Moment));
+    let filled = multiplexer.put(&SPACE).unwrap();
+    assert_eq!(filled.len(), 1);
+    assert_eq!(filled[0][2..8], [0, 0, 1, 0, 0, 0]);
+    let long = wrap(LIMIT, 1, 0, &[7; 30]).unwrap();
+    assert_eq!(multiplexer.put(&long).unwrap().len(), 3);
+    assert_eq!(multiplexer.flush().unwrap().unwrap()[2..5], [0, 0, 5]);
+}
+
+#[test]
+fn packets_are_extracted() {
+    let frames = frames();
+    let mut extractor = Extractor::new(settings());
+    let first: Vec<Event> = extractor.feed(&frames[0]).unwrap().skip(1).collect();
+    let second: Vec<Event> = extractor.feed(&frames[1]).unwrap().skip(1).collect();
+    match (&first[..], &second[..]) {
+        ([Event::Packet(space)], [Event::Packet(encapsulation), Event::Packet(idle)]) => {
+            assert!(matches!(space.octets, Cow::Borrowed(octets) if octets == SPACE));
+            assert!(
+                matches!(&encapsulation.octets, Cow::Owned(octets) if octets[..] == ENCAPSULATION)
+            );
+            assert!(idle.header.idle && idle.octets.len() == 7);
+        }
+        other => panic!("{other:?}"),
+    }
+}
+
+#[test]
+fn what_is_missing_is_told() {
+    let frames = frames();
+    let mut extractor = Extractor::new(settings());
+    extractor.feed(&frames[0]).unwrap();
+    let mut later = frames[1].clone();
+    later[4] = 2;
+    let mut events = extractor.feed(&later).unwrap();
+    let told = Entered { count: 2, replay: false, lost: 1, dropped: 2, reason: Reason::Lost };
+    assert_eq!(entered(events.next()), told);
+    assert!(matches!(events.next(), Some(Event::Packet(packet)) if packet.header.idle));
+    assert_eq!(events.next(), None);
+    assert_eq!(events.next(), None);
+}
+
+#[test]
+fn a_frame_is_spent_even_where_nobody_asks() {
+    let frames = frames();
+    let mut extractor = Extractor::new(settings());
+    extractor.feed(&frames[0]).unwrap();
+    let second = extractor.feed(&frames[1]).unwrap().nth(1);
+    assert!(matches!(second, Some(Event::Packet(packet)) if packet.octets[..] == ENCAPSULATION));
+    assert_eq!(entered(extractor.feed(&frames[0]).unwrap().next()).lost, 16_777_214);
+}
+
+#[test]
+fn frames_of_elsewhere_are_refused() {
+    let frames = frames();
+    let mut extractor = Extractor::new(settings());
+    extractor.feed(&frames[0]).unwrap();
+    let spoilt = |at: usize, octet: u8| {
+        let mut frame = frames[1].clone();
+        frame[at] = octet;
+        frame
+    };
+    for (frame, refusal) in [
+        (spoilt(0, 0x10), Refusal::Version),
+        (spoilt(1, 0x84), Refusal::Channel),
+        (spoilt(5, 0x01), Refusal::Spare),
+        (spoilt(7, 0x0A), Refusal::Pointer),
+        (frames[1][1..].to_vec(), Refusal::Length),
+    ] {
+        assert_eq!(extractor.feed(&frame).err(), Some(refusal));
+    }
+    assert_eq!(extractor.feed(&frames[1]).unwrap().count(), 3);
+}
+
+#[test]
+fn runs_are_judged() {
+    let frames = frames();
+    assert_eq!(judge(settings(), &frames), Ok(Verdict::Pass));
+    assert_eq!(judge(settings(), Vec::<Vec<u8>>::new()), Ok(Verdict::Pass));
+    assert_eq!(judge(settings(), &frames[..1]), Ok(Verdict::Fault(1)));
+    assert_eq!(judge(settings(), &frames[1..]), Ok(Verdict::Fault(0)));
+    assert_eq!(judge(settings(), [&frames[0][..], &[]]), Ok(Verdict::Fault(1)));
+}
+
+#[test]
+fn bits_go_round() {
+    let settings = BitSettings::new(66, 3, 1).unwrap();
+    let mut writer = BitWriter::new(settings);
+    let frame = writer.write(&[0x70], 4).unwrap();
+    assert_eq!(frame[6..], [0x00, 0x03, 0x75]);
+    assert_eq!(writer.write(&[0x70], 9), Err(Refusal::Setting));
+    assert_eq!(writer.write(&[], 1), Err(Refusal::Room));
+    let mut reader = BitReader::new(settings);
+    let bits = reader.read(&frame).unwrap();
+    assert_eq!(bits.iter().collect::<Vec<_>>(), [false, true, true, true]);
+    assert_eq!(bits, Bits { count: 0, replay: false, lost: false, number: 4, octets: &[0x75] });
+    assert!(reader.read(&frame).unwrap().lost);
+    assert_eq!(reader.read(&frame[1..]), Err(Refusal::Length));
+    let none = writer.write(&[], 0).unwrap();
+    assert_eq!(none[6..8], [0x3F, 0xFE]);
+    assert_eq!(reader.read(&none).unwrap().iter().count(), 0);
+}
+
+#[test]
+fn refusals_say_why() {
+    assert_eq!(Refusal::Pointer.number(), 7);
+    let said = Refusal::Pointer.to_string();
+    assert_eq!(said, "refused 7: the frame's pointer is one that cannot be");
+    let error: Box<dyn std::error::Error + Send + Sync> = Refusal::Last.into();
+    assert!(error.to_string().starts_with("refused 11: "));
+}
