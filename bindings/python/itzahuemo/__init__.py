@@ -1,0 +1,49 @@
+"""Packets in and out of the AOS telemetry frames of one virtual channel.
+
+A face on the proved library: what has to be remembered between calls is kept here, and a refused call raises `Refused`.
+
+    settings = Settings(spacecraft=66, channel=3, zone=10, limit=1024)
+    frames = multiplex(settings, packets)
+    extractor = Extractor(settings)
+    for frame in frames:
+        for event in extractor.feed(frame):
+            print(event)
+    print(judge(settings, frames))
+"""
+
+from ._library import Refusal, Refused
+from .bits import BitReader, Bits, BitSettings, BitWriter
+from .channel import Settings
+from .extractor import Damaged, Entered, Event, Extractor, Packet, Reason
+from .judge import Judge, Verdict, judge
+from .multiplexer import Multiplexer, multiplex
+from .packets import Front, Header, SpaceHeader, Unwrapped, read_header, unwrap, well_formed, wrap
+
+__all__ = [
+    "BitReader",
+    "BitSettings",
+    "BitWriter",
+    "Bits",
+    "Damaged",
+    "Entered",
+    "Event",
+    "Extractor",
+    "Front",
+    "Header",
+    "Judge",
+    "Multiplexer",
+    "Packet",
+    "Reason",
+    "Refusal",
+    "Refused",
+    "Settings",
+    "SpaceHeader",
+    "Unwrapped",
+    "Verdict",
+    "judge",
+    "multiplex",
+    "read_header",
+    "unwrap",
+    "well_formed",
+    "wrap",
+]

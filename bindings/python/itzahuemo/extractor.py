@@ -1,0 +1,89 @@
+"""Packets out of frames."""
+
+from __future__ import annotations
+
+import enum
+from dataclasses import dataclass
+from typing import Any, Union
+
+from ._library import Octets, answer, call, octets, room
+from .channel import Settings
+from .packets import Front, Header, read_header
+
+# What the calls answer.
+_STEP_DAMAGED, _STEP_SPENT = 3, 4
+_IN_FRAME = 1
+
+
+class Reason(enum.IntEnum):
+    """Why a frame does not go on from what came before it."""
+
+    NONE = 0
+    LOST = 1
+    POINTER = 2
+    DAMAGED = 3
+
+
+@dataclass(frozen=True)
+class Entered:
+    """What a frame says as it is entered: its count and replay flag, the frames missing before it, the held octets that were dropped,
+    and why."""
+
+    count: int
+    replay: bool
+    lost: int
+    dropped: int
+    reason: Reason
+
+
+@dataclass(frozen=True)
+class Packet:
+    """A whole packet, idle ones too."""
+
+    header: Header
+    octets: bytes
+
+
+@dataclass(frozen=True)
+class Damaged:
+    """No packet can begin where one should; the rest of the zone is given up."""
+
+
+Event = Union[Entered, Packet, Damaged]
+
+
+class Extractor:
+    """Takes packets out of the frames of a channel, and says what is missing between them."""
+
+    def __init__(self, settings: Settings) -> None:
+        self.settings = settings
+        self._record = answer(4)
+        self._store = room(settings.limit)
+
+    def feed(self, frame: Octets) -> list[Event]:
+        """All that a frame brings, first what it says as it is entered. A frame that is not of this channel raises `Refused`, and the
+        extractor goes on as if it had not been there."""
+        lent = octets(frame)
+        events: list[Event] = [self._enter(lent)]
+        while True:
+            step = answer(4)
+            call("extractor_step", self.settings.numbers(), self._record, self._store, lent, step)
+            if step[0] == _STEP_SPENT:
+                return events
+            events.append(Damaged() if step[0] == _STEP_DAMAGED else self._packet(lent, step))
+
+    def _enter(self, frame: Any) -> Entered:
+        said = answer(6)
+        call("extractor_enter", self.settings.numbers(), self._record, self._store, frame, said)
+        _entered, count, replay, lost, dropped, reason = said
+        return Entered(count, bool(replay), lost, dropped, Reason(reason))
+
+    def _packet(self, frame: Any, step: Any) -> Packet:
+        shown = answer(3)
+        call("show", step, frame, self._store, shown)
+        place, start, length = shown
+        held = frame if place == _IN_FRAME else self._store
+        packet = bytes(held[start : start + length])
+        header = read_header(self.settings.limit, packet)
+        assert not isinstance(header, Front), "a packet that was taken out has a header"
+        return Packet(header, packet)

@@ -1,0 +1,182 @@
+"""Every call, where it is answered and where it is refused."""
+
+from __future__ import annotations
+
+import unittest
+from typing import Any, Callable
+
+from itzahuemo import (
+    BitReader,
+    Bits,
+    BitSettings,
+    BitWriter,
+    Entered,
+    Extractor,
+    Front,
+    Header,
+    Multiplexer,
+    Packet,
+    Reason,
+    Refusal,
+    Refused,
+    Settings,
+    SpaceHeader,
+    Unwrapped,
+    Verdict,
+    judge,
+    multiplex,
+    read_header,
+    unwrap,
+    well_formed,
+    wrap,
+)
+
+SPACE = bytes.fromhex("0005C0000001AABB")
+ENCAPSULATION = bytes.fromhex("E905112233")
+LIMIT = 1024
+SETTINGS = Settings(66, 3, 10, LIMIT)
+FRAMES = multiplex(SETTINGS, [SPACE, ENCAPSULATION])
+
+
+class Calls(unittest.TestCase):
+    """Answers and refusals."""
+
+    def refused(self, refusal: Refusal, call: Callable[..., Any], *lent: Any) -> None:
+        """A call that has to be refused."""
+        with self.assertRaises(Refused) as caught:
+            call(*lent)
+        self.assertEqual(caught.exception.refusal, refusal)
+
+    def test_settings(self) -> None:
+        self.assertEqual(SETTINGS.frame_length, 18)
+        Settings(255, 62, 2046, 65542, 255)
+        for numbers in [
+            (256, 3, 10, 1024),
+            (66, 63, 10, 1024),
+            (66, 3, 0, 1024),
+            (66, 3, 2047, 4096),
+            (66, 3, 10, 9),
+            (66, 3, 1, 6),
+            (66, 3, 10, 65543),
+            (66, 3, 10, 1024, 256),
+            (-1, 3, 10, 1024),
+            (2**64 + 66, 3, 10, 1024),
+        ]:
+            self.refused(Refusal.SETTING, Settings, *numbers)
+        self.assertEqual(BitSettings(66, 3, 2047).frame_length, 2055)
+        self.refused(Refusal.SETTING, BitSettings, 66, 3, 2048)
+
+    def test_headers(self) -> None:
+        self.assertEqual(read_header(LIMIT, SPACE), Header(5, None, False, 6, 8))
+        self.assertEqual(read_header(LIMIT, b"\xe0"), Header(None, 0, True, 1, 1))
+        self.assertEqual(read_header(LIMIT, memoryview(SPACE)[:5]), Front.MORE)
+        self.assertEqual(read_header(LIMIT, b""), Front.MORE)
+        self.assertEqual(read_header(LIMIT, bytearray(b"\x33")), Front.DAMAGED)
+        self.refused(Refusal.SETTING, read_header, 6, SPACE)
+        self.assertTrue(well_formed(LIMIT, SPACE))
+        self.assertFalse(well_formed(LIMIT, SPACE[:7]))
+        self.assertFalse(well_formed(7, SPACE))
+        self.refused(Refusal.SETTING, well_formed, 2**64 + 7, SPACE)
+
+    def test_wrapping(self) -> None:
+        self.assertEqual(wrap(LIMIT, 2, b"\x11\x22\x33"), ENCAPSULATION)
+        self.assertEqual(wrap(LIMIT, 6, b"\xdd", extension=5), bytes.fromhex("FA050005DD"))
+        self.refused(Refusal.SETTING, wrap, LIMIT, 0, b"\x01")
+        self.refused(Refusal.PACKET, wrap, LIMIT, 2, b"")
+        self.assertEqual(unwrap(LIMIT, ENCAPSULATION), Unwrapped(2, 0, b"\x11\x22\x33"))
+        self.assertEqual(unwrap(LIMIT, b"\xe9\x02").data, b"")
+        self.refused(Refusal.PACKET, unwrap, LIMIT, SPACE)
+        self.refused(Refusal.SPARE, unwrap, LIMIT, bytes.fromhex("EA050005DD"))
+        for size in (1, 253, 254, 1016):
+            packet = wrap(65542, 3, bytes(size))
+            self.assertEqual(len(packet), size + (2 if size < 254 else 4))
+            self.assertEqual(unwrap(65542, packet).data, bytes(size))
+
+    def test_space_headers(self) -> None:
+        header = SpaceHeader(apid=5, length_field=1)
+        self.assertEqual(SpaceHeader.read(SPACE), header)
+        self.assertEqual(header.to_octets(), SPACE[:6])
+        self.assertEqual(header.total, 8)
+        full = SpaceHeader(2047, 65535, 3, 16383, 1, 1)
+        self.assertEqual(full.to_octets(), bytes.fromhex("1FFFFFFFFFFF"))
+        self.assertEqual(SpaceHeader.read(full.to_octets()), full)
+        self.refused(Refusal.SETTING, SpaceHeader(2048, 0).to_octets)
+        self.refused(Refusal.SETTING, SpaceHeader(5, 1, version=1).to_octets)
+        self.refused(Refusal.PACKET, SpaceHeader.read, SPACE[:5])
+        self.refused(Refusal.PACKET, SpaceHeader.read, ENCAPSULATION)
+
+    def test_multiplexing(self) -> None:
+        self.assertEqual(FRAMES[1], bytes.fromhex("5083000001000003 112233 E1075555555555"))
+        multiplexer = Multiplexer(SETTINGS)
+        self.assertIsNone(multiplexer.flush())
+        self.assertEqual(multiplexer.idle(), bytes.fromhex("50830000000007FE") + bytes([0x55] * 10))
+        self.refused(Refusal.PACKET, multiplexer.put, SPACE[:7])
+        self.assertEqual(multiplexer.put(SPACE), [])
+        self.refused(Refusal.MOMENT, multiplexer.idle)
+        (filled,) = multiplexer.put(SPACE)
+        self.assertEqual(filled[2:8], bytes.fromhex("000001000000"))
+        self.assertEqual(len(multiplexer.put(wrap(LIMIT, 1, bytes(30)))), 3)
+        last = multiplexer.flush()
+        assert last is not None
+        self.assertEqual(last[2:5], b"\0\0\5")
+
+    def test_extracting(self) -> None:
+        extractor = Extractor(SETTINGS)
+        entered, space = extractor.feed(FRAMES[0])
+        self.assertEqual(entered, Entered(0, False, 0, 0, Reason.NONE))
+        self.assertEqual(space, Packet(Header(5, None, False, 6, 8), SPACE))
+        _entered, encapsulation, idle = extractor.feed(FRAMES[1])
+        self.assertEqual(encapsulation, Packet(Header(None, 2, False, 2, 5), ENCAPSULATION))
+        self.assertEqual(idle, Packet(Header(None, 0, True, 2, 7), FRAMES[1][11:]))
+
+    def test_what_is_missing(self) -> None:
+        extractor = Extractor(SETTINGS)
+        extractor.feed(FRAMES[0])
+        later = bytearray(FRAMES[1])
+        later[4] = 2
+        entered, _idle = extractor.feed(later)
+        self.assertEqual(entered, Entered(2, False, 1, 2, Reason.LOST))
+
+    def test_frames_of_elsewhere(self) -> None:
+        extractor = Extractor(SETTINGS)
+        extractor.feed(FRAMES[0])
+        for at, octet, refusal in [
+            (0, 0x10, Refusal.VERSION),
+            (1, 0x84, Refusal.CHANNEL),
+            (5, 0x01, Refusal.SPARE),
+            (7, 0x0A, Refusal.POINTER),
+        ]:
+            spoilt = bytearray(FRAMES[1])
+            spoilt[at] = octet
+            self.refused(refusal, extractor.feed, spoilt)
+        self.refused(Refusal.LENGTH, extractor.feed, FRAMES[1][1:])
+        self.assertEqual(len(extractor.feed(FRAMES[1])), 3)
+
+    def test_judging(self) -> None:
+        self.assertEqual(judge(SETTINGS, FRAMES), Verdict(None))
+        self.assertTrue(judge(SETTINGS, []).passed)
+        self.assertEqual(str(judge(SETTINGS, FRAMES[:1])), "fault 1")
+        self.assertEqual(judge(SETTINGS, FRAMES[1:]).fault, 0)
+        self.assertFalse(judge(SETTINGS, [FRAMES[0], b""]).passed)
+
+    def test_bits(self) -> None:
+        settings = BitSettings(66, 3, 1)
+        writer = BitWriter(settings)
+        frame = writer.write(b"\x70", 4)
+        self.assertEqual(frame[6:], b"\x00\x03\x75")
+        self.refused(Refusal.SETTING, writer.write, b"\x70", 9)
+        self.refused(Refusal.ROOM, writer.write, b"", 1)
+        reader = BitReader(settings)
+        bits = reader.read(frame)
+        self.assertEqual(bits, Bits(0, False, False, 4, b"\x75"))
+        self.assertEqual(list(bits), [False, True, True, True])
+        self.assertTrue(reader.read(frame).lost)
+        self.refused(Refusal.LENGTH, reader.read, frame[1:])
+        none = writer.write(b"", 0)
+        self.assertEqual(none[6:8], b"\x3f\xfe")
+        self.assertEqual(list(reader.read(none)), [])
+
+    def test_refusals(self) -> None:
+        self.assertEqual(str(Refused(Refusal.POINTER)), "refused 7: the frame's pointer is one that cannot be")
+        for refusal in Refusal:
+            self.assertIn(f"refused {int(refusal)}: ", str(Refused(refusal)))
