@@ -73,12 +73,9 @@ _CALLS = {
     "bits_read": "aAoA",
 }
 
-_POINTERS: dict[str, Any] = {
-    "o": ctypes.POINTER(ctypes.c_uint8),
-    "O": ctypes.POINTER(ctypes.c_uint8),
-    "a": ctypes.POINTER(ctypes.c_uint64),
-    "A": ctypes.POINTER(ctypes.c_uint64),
-}
+_OCTETS: list[Any] = [ctypes.POINTER(ctypes.c_uint8), ctypes.c_size_t]
+_NUMBERS: list[Any] = [ctypes.POINTER(ctypes.c_uint64), ctypes.c_size_t]
+_LENT = {"n": [ctypes.c_uint64], "o": _OCTETS, "O": _OCTETS, "a": _NUMBERS, "A": _NUMBERS}
 
 _MOST = 2**64 - 1
 
@@ -102,11 +99,7 @@ def _load() -> dict[str, Any]:
     for name, lent in _CALLS.items():
         function = getattr(library, f"itz_{name}")
         function.restype = ctypes.c_uint64
-        function.argtypes = [
-            kind
-            for letter in lent
-            for kind in ([ctypes.c_uint64] if letter == "n" else [_POINTERS[letter], ctypes.c_size_t])
-        ]
+        function.argtypes = [kind for letter in lent for kind in _LENT[letter]]
         calls[name] = function
     return calls
 
