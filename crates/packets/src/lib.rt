@@ -107,16 +107,23 @@ fn counted(limit: usize, len: usize, size: usize, total: usize) -> Seen
     sized(limit, size, total)
 }
 
-// The length that an encapsulation header states in its second half; 0 where it is not all there.
-fn stated(octets: &[u8], lol: u8) -> usize
+// The length field of an encapsulation header, its second half; 0 where it is not all there.
+fn stated(octets: &[u8], lol: u8) -> u32
     ensures { λ r. ⌜ r ≡ number-at (header-length lol / 2) (header-length lol / 2) (now (octets .entry)) ⌝ }
 {
     match lol {
         0 => 0,
-        1 => octets::octet(octets, 1) as usize,
-        2 => octets::number2(octets, 2) as usize,
-        _ => octets::number4(octets, 4) as usize,
+        1 => octets::octet(octets, 1) as u32,
+        2 => octets::number2(octets, 2) as u32,
+        _ => octets::number4(octets, 4),
     }
+}
+
+// The length of the packet that the field states: the header is counted in it.
+fn total_of(length: u32) -> usize
+    ensures { λ r. ⌜ r ≡ length ⌝ }
+{
+    length as usize
 }
 
 // What an encapsulation packet's first octets say.
@@ -124,7 +131,8 @@ fn encapsulation(limit: usize, protocol: u8, lol: u8, octets: &[u8]) -> Seen
     ensures { λ r. ⌜ seen r ≡ encapsulation limit protocol lol (now (octets .entry)) ⌝ }
 {
     if lol != 0 {
-        return counted(limit, octets.len(), header_length(lol), stated(octets, lol));
+        let total = total_of(stated(octets, lol));
+        return counted(limit, octets.len(), header_length(lol), total);
     }
     if protocol == 0 {
         return Seen::Whole { total: 1 };

@@ -12,12 +12,14 @@ use Rattle.packets.proofs.encapsulation.Tie as tie
 
 returns : tie.Need-returns
 returns c =
-    let at-size = c .before .before in
-    let at-if1 = at-size .before in
+    let at-size = c .before in
+    let at-total = at-size .before in
+    let at-stated = at-total .before in
+    let at-if1 = at-stated .before in
     let a = at-if1 .before .before .args in
     c .counted .ensures
-    ∙ ap (λ (n : ℕ). counted (a .limit) (length (a .octets .now)) n (c .before .stated .result)) (at-size .header-length .ensures)
-    ∙ ap (counted (a .limit) (length (a .octets .now)) (header-length (a .lol))) (c .before .stated .ensures)
+    ∙ ap (λ (n : ℕ). counted (a .limit) (length (a .octets .now)) n (at-total .total-of .result)) (at-size .header-length .ensures)
+    ∙ ap (counted (a .limit) (length (a .octets .now)) (header-length (a .lol))) (at-total .total-of .ensures ∙ at-stated .stated .ensures)
     ∙ sym (half-read (a .limit) (a .octets .now) (a .protocol) (a .lol) (at-if1 .if1 .taken))
 
 returns-2 : tie.Need-returns-2
@@ -35,4 +37,4 @@ returns-3 c =
 pub encapsulation-spec : {M : Type 1} → statement M
 encapsulation-spec =
     tie.close
-    (tie.spec (λ c κs. search needs) (λ c κs. search needs) (λ c κs. search needs) returns returns-2 returns-3)
+    (tie.spec (λ c κs. search needs) (λ c κs. search needs) (λ c κs. search needs) (λ c κs. search needs) returns returns-2 returns-3)
