@@ -6,3 +6,4 @@ mod Extractors
 mod Judges
 mod Bitstreams
 pub mod Theorems
+pub mod Zeros

@@ -2,27 +2,33 @@
 use mathlib.Core.Path.{_≡_}
 use Prim.Native.Nat.{ℕ, _≤_}
 use mathlib.Core.List.{List, [], _∷_}
+use mathlib.Core.Bool.{Bool, true, not}
 use lib.ListN.{length, getD, take, drop}
 use lib.Dec.{eqb}
-use Rattle.octets.specs.Basics.{pick}
+use Rattle.octets.specs.Basics.{pick, and}
+use Rattle.frames.specs.declared.Settings.{Settings}
+use Rattle.packets.specs.Header.{reading}
+use Rattle.packets.specs.Packet.{limit-in-range}
 use Rattle.packets.specs.Wrap.{unwraps, unit-part}
 use Rattle.packets.specs.declared.wrapping.Unwrapped.{Unwrapped}
+use Rattle.multiplexer.specs.Calls.{to-flush, answer}
 use Rattle.multiplexer.specs.declared.Mux.{Mux}
 use Rattle.extractor.specs.Records.{shown}
-use Rattle.extractor.specs.Answers.{found-numbers}
+use Rattle.extractor.specs.Answers.{enter-answer, found-numbers, step-answer}
 use Rattle.extractor.specs.declared.Found.{Found}
 use Rattle.extractor.specs.declared.Extractor.{Extractor}
 use Rattle.extractor.specs.declared.Extractor.the-variants.{Fresh, Astray, InStep, Walking, Leaving}
+use Rattle.judge.specs.Calls.{close-call}
 use Rattle.judge.specs.declared.Judge.{Judge}
 use Rattle.judge.specs.declared.Judge.the-variants.{Open, Sound, Faulty}
 use Rattle.bitstream.specs.declared.Writer.{Writer}
 use Rattle.bitstream.specs.declared.Reader.{Reader}
 use Rattle.bitstream.specs.declared.Reader.the-variants as reader
 use Rattle.exports.specs.Left.{Left, left, told}
-use Rattle.exports.specs.Packet.{unwrap-numbers, unit-numbers}
-use Rattle.exports.specs.Mux.{mux-of, mux-numbers}
-use Rattle.exports.specs.Extract.{extractor-of, extractor-numbers, step-numbers, show-numbers}
-use Rattle.exports.specs.Judging.{judge-of, judge-numbers}
+use Rattle.exports.specs.Packet.{header-numbers, formed-numbers, unwrap-numbers, unit-numbers}
+use Rattle.exports.specs.Mux.{mux-of, mux-numbers, flush-numbers}
+use Rattle.exports.specs.Extract.{extractor-of, extractor-numbers, enter-numbers, step-numbers, show-numbers}
+use Rattle.exports.specs.Judging.{judge-of, judge-numbers, close-numbers}
 use Rattle.exports.specs.Bits.{writer-of, reader-of, reader-numbers}
 
 -- a promise says what `left` is: two outcomes that meet it are the same
@@ -73,3 +79,25 @@ pub record PartsNamed (array : List ℕ) : Type 0 where
       → unit-named packet (unit-numbers (told array (unwrap-numbers (unwraps u))) packet) ≡ unit-part packet u
   pub step : (found : Found) (frame store : List ℕ) → 4 ≤ length array
       → part-named frame store (show-numbers (told array (step-numbers (found-numbers frame store found))) frame store) ≡ shown frame store found
+
+-- all of them are 0
+unfoldable pub all-zero : List ℕ → Bool
+all-zero [] = true
+all-zero (n ∷ ns) = and (eqb n 0) (all-zero ns)
+
+-- 0 is "refused, nothing said": without a refusal the first number is not 0, and with one every number is
+unfoldable pub told-apart : ℕ → List ℕ → Bool
+told-apart refusal ns = pick (eqb refusal 0) (not (eqb (getD ns 0 0) 0)) (all-zero ns)
+
+-- so it is of every answer that names an outcome
+pub record ZeroIsRefused : Type 0 where
+  pub header : (limit : ℕ) (os : List ℕ) → told-apart (reading limit os .refusal) (header-numbers (reading limit os)) ≡ true
+  pub formed : (limit : ℕ) (p : List ℕ) → told-apart (pick (limit-in-range limit) 0 1) (formed-numbers limit p) ≡ true
+  pub flush : (s : Settings) (m : Mux) (frame : List ℕ)
+      → told-apart (answer s m to-flush frame .refusal) (flush-numbers (answer s m to-flush frame)) ≡ true
+  pub enter : (s : Settings) (x : Extractor) (store frame : List ℕ)
+      → told-apart (enter-answer s x store frame .answer .refusal) (enter-numbers (enter-answer s x store frame .answer)) ≡ true
+  pub step : (s : Settings) (x : Extractor) (store frame : List ℕ)
+      → told-apart (step-answer s x store frame .answer .refusal) (step-numbers (step-answer s x store frame .answer)) ≡ true
+  pub close : (s : Settings) (j : Judge) (store : List ℕ)
+      → told-apart (close-call s store j .refusal) (close-numbers (close-call s store j)) ≡ true
