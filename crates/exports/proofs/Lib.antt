@@ -1,5 +1,6 @@
 mod Formed
 mod Wraps
+mod Headers
 mod Leaving
 mod Muxes
 mod Extractors

@@ -17,7 +17,7 @@ use Rattle.packets.specs.declared.wrapping.Wrapped.{Wrapped}
 use Rattle.exports.specs.Left.{left, told}
 use Rattle.exports.specs.Packet.{wrap-numbers, wrap-leaves}
 
-refuted : (b : Bool) → (b ≡ true → ⊥) → b ≡ false
+pub refuted : (b : Bool) → (b ≡ true → ⊥) → b ≡ false
 refuted true f = absurd (f refl)
 refuted false f = refl
 

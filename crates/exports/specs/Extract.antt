@@ -83,6 +83,7 @@ show-numbers step frame store =
     pick (eqb (getD step 1 0) 1) (part-numbers 1 (length frame) start size)
     (pick (eqb (getD step 1 0) 2) (part-numbers 2 (length store) start size) (0 ∷ 0 ∷ 0 ∷ []))
 
+-- the answer of a step is lent with frame and store; nothing but a short array is refused
 unfoldable pub show-leaves : List ℕ → List ℕ → List ℕ → List ℕ → Left
 show-leaves step frame store answer =
     pick (or (ltb (length step) 4) (ltb (length answer) 3))

@@ -34,6 +34,7 @@ header-leaves limit octets answer =
 unfoldable pub formed-numbers : ℕ → List ℕ → List ℕ
 formed-numbers limit packet = pick (limit-in-range limit) (pick {A = ℕ} (well-formed limit packet) 1 2) 0 ∷ []
 
+-- a limit out of range is refused
 unfoldable pub formed-leaves : ℕ → List ℕ → List ℕ → Left
 formed-leaves limit packet answer =
     pick (ltb (length answer) 1)
@@ -65,6 +66,7 @@ unit-numbers unwrapped packet =
     let size : ℕ = getD unwrapped 3 0 in
     pick (leb (start + size) (length packet)) (start ∷ size ∷ []) (0 ∷ 0 ∷ [])
 
+-- the answer of an unwrapping is lent with the packet; nothing but a short array is refused
 unfoldable pub unit-leaves : List ℕ → List ℕ → List ℕ → Left
 unit-leaves unwrapped packet answer =
     pick (or (ltb (length unwrapped) 4) (ltb (length answer) 2))

@@ -1,12 +1,12 @@
 -- The header of a space packet in the numbers of the C interface.
-use Prim.Native.Nat.{ℕ, _+_, min}
+use Prim.Native.Nat.{ℕ, _+_}
 use mathlib.Core.List.{List, [], _∷_}
 use lib.ListN.{length, getD}
-use lib.Dec.{leb, ltb}
+use lib.Dec.{ltb}
 use Rattle.octets.specs.Basics.{pick}
 use Rattle.space.specs.Space.{SpaceReading, space-reading, SpaceWriting, space-writing}
 use Rattle.space.specs.declared.SpaceHeader.{SpaceHeader}
-use Rattle.exports.specs.Left.{Left, left, told, octet-of}
+use Rattle.exports.specs.Left.{Left, left, told}
 
 -- ---- reading
 
@@ -24,6 +24,7 @@ space-numbers a =
     ∷ h .length
     ∷ []
 
+-- the octets are only read
 unfoldable pub read-space-leaves : List ℕ → List ℕ → Left
 read-space-leaves octets answer =
     let a : SpaceReading = space-reading octets in
@@ -31,26 +32,19 @@ read-space-leaves octets answer =
 
 -- ---- writing
 
--- a number as one of 16 bits: one that does not fit is the greatest that does
-abbrev pub half-of : ℕ → ℕ
-half-of n = min n 65535
-
--- the version: none that can be written, where the length field has no room for its number
-unfoldable pub version-for : ℕ → ℕ → ℕ
-version-for version length = pick (leb length 65535) (octet-of version) 255
-
 -- version, type, secondary header, APID, sequence flags, sequence count and length field
 unfoldable pub header-of : List ℕ → SpaceHeader
 header-of ns = record {
-  version = version-for (getD ns 0 0) (getD ns 6 0);
-  «packet_type» = octet-of (getD ns 1 0);
-  secondary = octet-of (getD ns 2 0);
-  apid = half-of (getD ns 3 0);
-  flags = octet-of (getD ns 4 0);
-  count = half-of (getD ns 5 0);
-  length = half-of (getD ns 6 0);
+  version = getD ns 0 0;
+  «packet_type» = getD ns 1 0;
+  secondary = getD ns 2 0;
+  apid = getD ns 3 0;
+  flags = getD ns 4 0;
+  count = getD ns 5 0;
+  length = getD ns 6 0;
 }
 
+-- the six octets are written where nothing is refused
 unfoldable pub write-space-leaves : List ℕ → List ℕ → Left
 write-space-leaves header octets =
     let a : SpaceWriting = space-writing (header-of header) octets in

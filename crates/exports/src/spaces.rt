@@ -1,9 +1,12 @@
 // Headers of space packets.
 ghost use mathlib.Core.Path.{_≡_};
-ghost use mathlib.Core.List.{[], _∷_};
-ghost use Rattle.space.specs.Space.{space-reads};
+ghost use Prim.Native.Nat.{ℕ, min};
+ghost use mathlib.Core.List.{List, [], _∷_};
+ghost use lib.Dec.{leb};
+ghost use Rattle.octets.specs.Basics.{pick};
+ghost use Rattle.space.specs.Space.{space-reads, space-writing};
 ghost use Rattle.exports.specs.Left.{left};
-ghost use Rattle.exports.specs.Spaces.{space-numbers, read-space-leaves, half-of, version-for, header-of, write-space-leaves};
+ghost use Rattle.exports.specs.Spaces.{space-numbers, read-space-leaves, header-of, write-space-leaves};
 use crate::arrays::ROOM;
 use crate::arrays::entry;
 use crate::arrays::octet_of;
@@ -52,14 +55,14 @@ pub extern "C" fn itz_read_space(octets: &[u8], answer: &mut [u64]) -> u64
 
 // A number as one of 16 bits: one that does not fit is the greatest that does.
 fn half_of(number: u64) -> u16
-    ensures { λ r. ⌜ r ≡ half-of number ⌝ }
+    ensures { λ r. ⌜ r ≡ min number 65535 ⌝ }
 {
     if number < 65535 { number as u16 } else { 65535 }
 }
 
 // The version: none that can be written, where the length field has no room for its number.
 fn version_for(version: u64, length: u64) -> u8
-    ensures { λ r. ⌜ r ≡ version-for version length ⌝ }
+    ensures { λ r. ⌜ r ≡ pick (leb length 65535) (min version 255) 255 ⌝ }
 {
     if length <= 65535 {
         octet_of(version)
@@ -68,8 +71,9 @@ fn version_for(version: u64, length: u64) -> u8
     }
 }
 
+// The header with these fields; one that does not fit is a field out of range.
 fn header_of(numbers: &[u64]) -> SpaceHeader
-    ensures { λ r. ⌜ r ≡ header-of (now (numbers .entry)) ⌝ }
+    ensures { λ r. ⌜ ((octets : List ℕ) → space-writing r octets ≡ space-writing (header-of (now (numbers .entry))) octets) ⌝ }
 {
     let length = entry(numbers, 6);
     SpaceHeader {

@@ -1,6 +1,7 @@
--- `exports::spaces::header_of` meets its contract, number by number.
+-- `exports::spaces::header_of` meets its contract: cutting each number to its field changes nothing of what is written.
 -- Assumes nothing.
 use Rattle.exports.specs.Spaces.{header-of}
+use Rattle.exports.proofs.Headers.{writing-cut}
 use borrow.Author.Needs.{needs}
 use Rattle.exports.proofs.spaces.header_of.Statement.{statement}
 use Rattle.exports.proofs.spaces.header_of.Tie as tie
@@ -30,7 +31,7 @@ returns c =
       at-version .version-for .ensures,
       at-version .before .entry2 .ensures,
       at-length .entry .ensures,
-    )
+    ) (writing-cut (header-of (at-length .before .before .args .numbers .now)))
 
 pub header-of-spec : {M : Type 1} → statement M
 header-of-spec =

@@ -19,8 +19,9 @@ unfolding write-space-leaves space-writes
 returns-2 c =
     let at-call = c .before .before in
     let at-header = at-call .before .before in
-    rw (le-ltb _ _ (at-header .before .if1 .left), ← at-header .header-of .ensures)
-    (ap (λ (w : SpaceWriting). left (w .refusal) [] (w .output) []) (at-call .write-space .ensures))
+    let a = at-header .before .before .before .before .args in
+    rw (le-ltb _ _ (at-header .before .if1 .left))
+    (ap (λ (w : SpaceWriting). left (w .refusal) [] (w .output) []) (at-call .write-space .ensures ∙ at-header .header-of .ensures (a .octets .now)))
 
 pub itz-write-space-spec : {M : Type 1} → statement M
 itz-write-space-spec =

@@ -2,17 +2,14 @@
 -- Assumes nothing.
 use mathlib.Core.Path.{refl}
 use borrow.Author.Tests.{le-leb, lt-leb}
-use Rattle.exports.specs.Spaces.{version-for}
 use borrow.Author.Needs.{needs}
 use Rattle.exports.proofs.spaces.version_for.Statement.{statement}
 use Rattle.exports.proofs.spaces.version_for.Tie as tie
 
 returns : tie.Need-returns
-unfolding version-for
 returns c = rw (le-leb _ _ (c .before .if1 .taken)) (c .octet-of .ensures)
 
 returns-2 : tie.Need-returns-2
-unfolding version-for
 returns-2 c = rw (lt-leb _ _ (c .if1 .left)) refl
 
 pub version-for-spec : {M : Type 1} → statement M
