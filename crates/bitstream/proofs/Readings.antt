@@ -38,7 +38,7 @@ module _ (s : BitSettings) (x : Reader) (f : List ℕ) where
   refusal-by h e =
       ap (λ (k : ℕ). pick (not (bits-in-range s)) 1 (pick (not (reader-reachable s x)) 10 k))
       (ap (λ (g : Heading). g .refusal) e ∙ refusal-kept (λ (g : Heading). g .refusal) (first (bit-heading-rows s f)) _ _ refl refl)
-      ∙ settled-once (bits-in-range s) (bit-frame-rows s f) (λ k. pick (not (reader-reachable s x)) 10 k)
+      ∙ settled-once (bits-in-range s) (bit-frame-rows s f) (pick (not (reader-reachable s x)) 10)
 
   pub read-done : (h : Heading) → h ≡ bit-heading s f → first (read-rows s x f) ≡ 0
       → record { refusal = 0; count = h .count; replay = h .replay; bits = valid-bits s (h .pointer); lost = loss-flag s x (h .count); reader = Last (h .count) }

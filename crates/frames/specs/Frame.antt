@@ -7,7 +7,6 @@ use lib.Dec.{leb, ltb, eqb}
 use Rattle.octets.specs.Basics.{pick, and, read, write, Row, row, first}
 use Rattle.octets.specs.declared.Place.{Place}
 use Rattle.frames.specs.Link.{link-in-range, zone-at, primary, zone-head, version-place, spacecraft-place, channel-place, count-place, replay-place, spare-place, header-rows, written-rows, headers}
-use Rattle.frames.specs.declared.Link.{Link}
 use Rattle.frames.specs.declared.Settings.{Settings}
 use Rattle.frames.specs.declared.Heading.{Heading}
 

@@ -3,8 +3,8 @@ ghost use mathlib.Core.Path.{_≡_};
 ghost use mathlib.Core.Bool.{not};
 ghost use Prim.Native.Nat.{_^_, _<_};
 ghost use lib.Dec.{ltb, eqb};
-ghost use Rattle.octets.specs.Basics.{pick, and, first, over, read};
-ghost use Rattle.frames.specs.Link.{link-in-range, count-place, replay-place, header-rows, written-rows, head-word, headers, missing, next-count};
+ghost use Rattle.octets.specs.Basics.{pick, first, over, read};
+ghost use Rattle.frames.specs.Link.{link-in-range, count-place, replay-place, header-rows, written-rows, head-word, headers, missing};
 ghost use Rattle.frames.specs.Frame.{in-range, frame-length, unused, heading-of, heading, head, head-rows};
 use octets::Place;
 

@@ -1,6 +1,5 @@
 -- `frames::bits::write_head` meets its contract: the headers' own, by what the calls give.
 -- Assumes nothing.
-use mathlib.Core.Path.{sym}
 use borrow.Author.Needs.{needs}
 use Rattle.frames.specs.BitFrame.{bit-head, bit-head-rows}
 use Rattle.frames.proofs.bits.write_head.Statement.{statement}
@@ -12,7 +11,7 @@ returns c =
     let at = c .before .before in
     let at-range = at .before .before in
     let at-placed = at-range .before in
-    rw (sym (at-range .in-range .ensures), sym (at-placed .before .unused .ensures), sym (at-placed .placed .ensures)) (at .write-headers .ensures)
+    rw (at-range .in-range .ensures, at-placed .before .unused .ensures, at-placed .placed .ensures) at (at .write-headers .ensures)
 
 pub write-head-spec : {M : Type 1} → statement M
 write-head-spec =
