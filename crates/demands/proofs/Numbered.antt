@@ -255,6 +255,8 @@ run-files = record {
   whole = refl;
   written = refl;
   bad-records = refl;
+  bad-after = refl;
+  bad-frames = refl;
 }
 
 answers : Cases

@@ -62,12 +62,12 @@ pub record Frames : Type 0 where
   pub begins : begun ≡ record { count = 0 }
   -- no bits, then 1, 8, 9, 15 and 16 of them: the pointer, the bits, and fill at the same places, which is 55
   pub none : writes 0 0 [] ≡ wrote 1 (frame 0 0x3F 0xFE (0x55 ∷ 0x55 ∷ []))
-  pub some : map (λ n. writes 0 n (0x80 ∷ 0x00 ∷ [])) (1 ∷ 8 ∷ 9 ∷ 15 ∷ 16 ∷ [])
+  pub some : map (λ n. writes 0 n (0x80 ∷ 0xFC ∷ [])) (1 ∷ 8 ∷ 9 ∷ 15 ∷ 16 ∷ [])
       ≡ wrote 1 (frame 0 0x00 0x00 (0xD5 ∷ 0x55 ∷ []))
       ∷ wrote 1 (frame 0 0x00 0x07 (0x80 ∷ 0x55 ∷ []))
-      ∷ wrote 1 (frame 0 0x00 0x08 (0x80 ∷ 0x55 ∷ []))
-      ∷ wrote 1 (frame 0 0x00 0x0E (0x80 ∷ 0x01 ∷ []))
-      ∷ wrote 1 (frame 0 0x3F 0xFF (0x80 ∷ 0x00 ∷ []))
+      ∷ wrote 1 (frame 0 0x00 0x08 (0x80 ∷ 0xD5 ∷ []))
+      ∷ wrote 1 (frame 0 0x00 0x0E (0x80 ∷ 0xFD ∷ []))
+      ∷ wrote 1 (frame 0 0x3F 0xFF (0x80 ∷ 0xFC ∷ []))
       ∷ []
   -- the greatest count is followed by 0
   pub wheel : writes 16777215 0 [] ≡ wrote 0 (0x50 ∷ 0x83 ∷ 0xFF ∷ 0xFF ∷ 0xFF ∷ 0x00 ∷ 0x3F ∷ 0xFE ∷ 0x55 ∷ 0x55 ∷ [])

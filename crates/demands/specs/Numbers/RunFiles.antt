@@ -49,3 +49,5 @@ pub record Records : Type 0 where
   pub bad-records : map bad
       ([] ∷ (2 ∷ []) ∷ (1 ∷ setup) ∷ (1 ∷ (setup ++ (2 ∷ lent 17))) ∷ (1 ∷ (setup ++ (4 ∷ []))) ∷ (1 ∷ (setup ++ (3 ∷ []))) ∷ (1 ∷ (setup ++ (3 ∷ 3 ∷ []))) ∷ [])
       ≡ some 0 ∷ some 0 ∷ some 1 ∷ some 1 ∷ some 1 ∷ none ∷ some 2 ∷ []
+  pub bad-after : map (λ last. bad (one-frame ++ last)) ([] ∷ (3 ∷ []) ∷ []) ≡ none ∷ some 3 ∷ []
+  pub bad-frames : map (λ last. bad (1 ∷ (setup ++ (2 ∷ (lent 18 ++ (2 ∷ (lent 18 ++ last))))))) ([] ∷ (3 ∷ []) ∷ (4 ∷ []) ∷ []) ≡ some 3 ∷ none ∷ some 3 ∷ []
