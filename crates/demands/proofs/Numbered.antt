@@ -232,6 +232,7 @@ bits-carried = record {
   begins = refl;
   none = refl;
   some = refl;
+  longer = refl;
   wheel = refl;
   valid = refl;
   reserved = refl;

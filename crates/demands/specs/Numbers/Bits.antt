@@ -8,7 +8,7 @@ use Rattle.bitstream.specs.Bitstream.{begun, Wrote, written, reading, leading-o
 use Rattle.bitstream.specs.declared.Reader.{Reader}
 use Rattle.bitstream.specs.declared.Reader.the-variants.{Fresh, Last}
 use Rattle.bitstream.specs.declared.Reading.{Reading}
-use Rattle.demands.specs.Numbers.Samples.{two-octets, no-octets, frame, wrong-headers, lent}
+use Rattle.demands.specs.Numbers.Samples.{set-bits, two-octets, no-octets, frame, wrong-headers, lent}
 
 -- with a writer of this count, so many octets of bits, n bits, and a frame of so much room
 abbrev pub refuses-write : BitSettings → ℕ → ℕ → ℕ → ℕ → ℕ
@@ -69,6 +69,7 @@ pub record Frames : Type 0 where
       ∷ wrote 1 (frame 0 0x00 0x0E (0x80 ∷ 0xFD ∷ []))
       ∷ wrote 1 (frame 0 0x3F 0xFF (0x80 ∷ 0xFC ∷ []))
       ∷ []
+  pub longer : written (set-bits 66 3 4) begun (0xA1 ∷ 0xA2 ∷ 0x80 ∷ []) 17 (lent 12) .frame ≡ frame 0 0x00 0x10 (0xA1 ∷ 0xA2 ∷ 0xD5 ∷ 0x55 ∷ [])
   -- the greatest count is followed by 0
   pub wheel : writes 16777215 0 [] ≡ wrote 0 (0x50 ∷ 0x83 ∷ 0xFF ∷ 0xFF ∷ 0xFF ∷ 0x00 ∷ 0x3F ∷ 0xFE ∷ 0x55 ∷ 0x55 ∷ [])
   -- read: valid bits by the pointer, the replay flag, and a loss where there is a last count that this one does not follow
