@@ -252,6 +252,7 @@ run-files = record {
   end = refl;
   after = refl;
   last-frame = refl;
+  last-end = refl;
   cut = refl;
   whole = refl;
   written = refl;
