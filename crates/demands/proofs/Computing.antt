@@ -24,6 +24,13 @@ use Rattle.runfile.specs.RunFile.{setup-of, fits, stop, with-setup, with-frame,
 use Rattle.runfile.specs.RunFile as runfile
 use Rattle.runfile.specs.Steps.{next-record, body-length, taken, closed}
 use Rattle.runfile.specs.Steps as run
+use Rattle.exports.specs.Channel.{short, zone-for, link-of, settings-of}
+use Rattle.exports.specs.Packet.{kind-number, header-numbers, header-leaves, formed-numbers, formed-leaves, wrap-numbers, wrap-leaves, unwrap-numbers, unwrap-leaves, unit-numbers, unit-leaves}
+use Rattle.exports.specs.Spaces.{space-numbers, read-space-leaves, header-of, write-space-leaves}
+use Rattle.exports.specs.Mux.{mux-numbers, mux-of, begin-leaves, put-numbers, flush-numbers, mux-leaves}
+use Rattle.exports.specs.Extract.{extractor-numbers, extractor-with, enter-numbers, enter-leaves, step-numbers, step-leaves, part-numbers, show-numbers, show-leaves}
+use Rattle.exports.specs.Judging.{judge-numbers, judge-with, judge-leaves, close-numbers, close-leaves}
+use Rattle.exports.specs.Bits.{bits-short, bit-settings-of, writer-of, write-leaves, reader-numbers, reader-with, read-numbers, read-leaves}
 
 unfoldable pub packets : Unit {0}
 unfolding number-from number octets field join placed part over first number-at laid limit-in-range sized counted space header-length encapsulation look states well-formed is-idle key-of size-of told reading version-of answer first-octet second-octet front idle-header idle-packet idle-packet-rows lol-for wrapped-total wrapped wrap-in-range wrap-rows wrapping wraps extension-of reserved-of unwrap-rows unwrapping unwraps run-of unit-part space-fields space-word space-in-range space-read-rows space-reading space-reads space-rows space-writing
@@ -52,3 +59,7 @@ bitstreams = tt
 unfoldable pub run-files : Unit {0}
 unfolding frames setup-of fits stop with-setup with-frame stands nothing-after ending records setup-octets frame-octets run-file runfile.reading run.reachable next-record body-length taken closed
 run-files = tt
+
+unfoldable pub arrays : Unit {0}
+unfolding multiplexing judging bitstreams short zone-for link-of settings-of kind-number header-numbers header-leaves formed-numbers formed-leaves wrap-numbers wrap-leaves unwrap-numbers unwrap-leaves unit-numbers unit-leaves space-numbers read-space-leaves header-of write-space-leaves mux-numbers mux-of begin-leaves put-numbers flush-numbers mux-leaves extractor-numbers extractor-with enter-numbers enter-leaves step-numbers step-leaves part-numbers show-numbers show-leaves judge-numbers judge-with judge-leaves close-numbers close-leaves bits-short bit-settings-of writer-of write-leaves reader-numbers reader-with read-numbers read-leaves
+arrays = tt

@@ -14,6 +14,7 @@ pub mod Judging
 pub mod Laid
 pub mod OverC
 pub mod Numbered
+pub mod NumbersInC
 pub mod OnlyThese
 pub mod Passed
 pub mod Promised

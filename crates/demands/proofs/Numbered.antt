@@ -15,6 +15,7 @@ use Rattle.demands.specs.Numbers.Bits as bits
 use Rattle.demands.specs.Numbers.RunFiles as runs
 use Rattle.demands.specs.Numbers.Answers.{Cases}
 use Rattle.demands.proofs.Computing as computing
+use Rattle.demands.proofs.NumbersInC.{in-c}
 use Rattle.demands.proofs.OnlyThese.{only-these}
 
 ranges : Edges
@@ -314,4 +315,5 @@ numbers = record {
   };
   run-files = run-files;
   answers = answers;
+  in-c = in-c;
 }

@@ -12,6 +12,7 @@ use Rattle.demands.specs.Numbers.Judging as judging
 use Rattle.demands.specs.Numbers.Bits as bits
 use Rattle.demands.specs.Numbers.RunFiles as runs
 use Rattle.demands.specs.Numbers.Answers.{Cases}
+use Rattle.demands.specs.Numbers.InC as arrays
 pub mod Samples
 pub mod Ranges
 pub mod Only
@@ -26,6 +27,7 @@ pub mod Judging
 pub mod Bits
 pub mod RunFiles
 pub mod Answers
+pub mod InC
 
 -- layouts
 pub record Layouts : Type 0 where
@@ -66,3 +68,4 @@ pub record Numbers : Type 0 where
   pub outcomes : Outcomes
   pub run-files : runs.Records
   pub answers : Cases
+  pub in-c : arrays.InC

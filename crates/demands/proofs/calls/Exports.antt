@@ -5,6 +5,7 @@ use mathlib.Core.List.{List, []}
 use Prim.Native.Nat.{ℕ}
 use Rattle.exports.specs.Left.{Left, left}
 use Rattle.exports.proofs.Theorems.{stated-again, parts-named}
+use Rattle.exports.proofs.Zeros.{zero-is-refused}
 use Rattle.demands.specs.Promises.{Is}
 use Rattle.demands.specs.calls.Exports.{leaving, Each, NoNumbers, NoOctets, NoAnswer, NumbersAlone, OctetsAlone, AnswerAlone, OfExports}
 
@@ -77,4 +78,5 @@ of-exports = record {
   bits-read = λ κs settings array frame answer. no-octets;
   stated-again = stated-again;
   parts-named = parts-named;
+  zero-is-refused = zero-is-refused;
 }

@@ -12,7 +12,7 @@ use Rattle.exports.specs.Mux.{begin-leaves, mux-leaves, put-numbers, flush-numb
 use Rattle.exports.specs.Extract.{enter-leaves, step-leaves, show-leaves}
 use Rattle.exports.specs.Judging.{judge-leaves, close-leaves}
 use Rattle.exports.specs.Bits.{write-leaves, read-leaves}
-use Rattle.exports.specs.Statements.{StatedAgain, PartsNamed}
+use Rattle.exports.specs.Statements.{StatedAgain, PartsNamed, ZeroIsRefused}
 use Rattle.exports.proofs.itz_read_header.Reads as read-header-fn
 use Rattle.exports.proofs.itz_well_formed.Reads as well-formed-fn
 use Rattle.exports.proofs.itz_wrap.Reads as wrap-fn
@@ -59,7 +59,8 @@ AnswerAlone o = NoNumbers o × NoOctets o
 abbrev pub leaving : (Left → Type 0) → Type 0 → (Left → Type 0) → Contract Left
 leaving lacks asks meets = as-read asks (λ o. meets o × lacks o)
 
--- each call leaves what the rules give; and what it leaves in a record's array states the record again
+-- Each call leaves what the rules give. What it leaves in a record's array states the record again, the parts that it names are those that the
+-- library hands back, and an answer of all zeros is a refused one.
 pub record OfExports : Type 0 where
   pub read-header : (κs : Lfts 2) (limit : ℕ) (octets answer : Slice)
       → Is (leaving AnswerAlone (read-header-fn.Pre κs (limit, (octets, (answer, tt)))) (λ o. read-header-fn.Post κs (limit, (octets, (answer, tt))) (o .refusal) (limit, (octets, (at-last answer (o .answer), tt)))))
@@ -117,3 +118,4 @@ pub record OfExports : Type 0 where
       (read-leaves (now settings) (now array) (now frame) (now answer))
   pub stated-again : (array : List ℕ) → StatedAgain array
   pub parts-named : (array : List ℕ) → PartsNamed array
+  pub zero-is-refused : ZeroIsRefused

@@ -1,0 +1,69 @@
+-- The arrays of the C interface hold what the examples say, by computing.
+-- Assumes nothing.
+use mathlib.Core.Path.{refl}
+use Rattle.demands.specs.Numbers.InC as arrays
+use Rattle.demands.proofs.Computing as computing
+
+stated : arrays.Settings
+unfolding computing.arrays
+stated = record {
+  packets = refl;
+  bits = refl;
+}
+
+packets : arrays.Packets
+unfolding computing.arrays
+packets = record {
+  headers = refl;
+  refused = refl;
+  short = refl;
+  formed = refl;
+  wrapped = refl;
+  unwrapped = refl;
+  unit = refl;
+  no-unit = refl;
+  space-read = refl;
+  space-written = refl;
+}
+
+multiplexer : arrays.Multiplexer
+unfolding computing.arrays
+multiplexer = record {
+  begun = refl;
+  taken = refl;
+  full = refl;
+  nothing = refl;
+  flushed = refl;
+  refused = refl;
+}
+
+extractor : arrays.Extractor
+unfolding computing.arrays
+extractor = record {
+  entered = refl;
+  lost = refl;
+  early = refl;
+  in-store = refl;
+  in-frame = refl;
+  spent = refl;
+  damaged = refl;
+  shown = refl;
+}
+
+judge : arrays.Judge
+unfolding computing.arrays
+judge = record {
+  judged = refl;
+  faulted = refl;
+  closed = refl;
+}
+
+bits : arrays.Bits
+unfolding computing.arrays
+bits = record {
+  written = refl;
+  read = refl;
+}
+
+pub in-c : arrays.InC
+in-c = record { stated = stated; packets = packets; multiplexer = multiplexer; extractor = extractor; judge = judge; bits = bits }

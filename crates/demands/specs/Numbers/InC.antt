@@ -1,0 +1,114 @@
+-- The arrays of the C interface by examples: what stands in each entry of settings, records and answers.
+use Prim.Native.Nat.{ℕ}
+use mathlib.Core.Path.{_≡_}
+use mathlib.Core.List.{List, [], _∷_, _++_, map}
+use Rattle.multiplexer.specs.Calls.{to-put, to-flush}
+use Rattle.exports.specs.Left.{left}
+use Rattle.exports.specs.Channel.{settings-of}
+use Rattle.exports.specs.Packet.{header-leaves, formed-leaves, wrap-leaves, unwrap-leaves, unit-leaves}
+use Rattle.exports.specs.Spaces.{read-space-leaves, write-space-leaves}
+use Rattle.exports.specs.Mux.{put-numbers, flush-numbers, begin-leaves, mux-leaves}
+use Rattle.exports.specs.Extract.{enter-leaves, step-leaves, show-leaves}
+use Rattle.exports.specs.Judging.{judge-leaves, close-leaves}
+use Rattle.exports.specs.Bits.{bit-settings-of, write-leaves, read-leaves}
+use Rattle.demands.specs.Numbers.Samples.{small, two-octets, frame, lent, ten, seven}
+
+-- spacecraft, channel, Z, M and fill; and spacecraft, channel, W and fill
+abbrev pub settings : List ℕ
+settings = 66 ∷ 3 ∷ 10 ∷ 12 ∷ 0x55 ∷ []
+
+abbrev pub bit-settings : List ℕ
+bit-settings = 66 ∷ 3 ∷ 2 ∷ 0x55 ∷ []
+
+pub record Settings : Type 0 where
+  pub packets : settings-of settings ≡ small
+  pub bits : bit-settings-of bit-settings ≡ two-octets
+
+-- a data unit of two octets in a packet of protocol 6, extension 5
+abbrev pub six : List ℕ
+six = 0xFA ∷ 0x05 ∷ 0x00 ∷ 0x06 ∷ 0xAA ∷ 0xBB ∷ []
+
+-- headers: more octets needed, damaged, a space packet, an idle packet; a limit that cannot be, and an array that is short
+pub record Packets : Type 0 where
+  pub headers : map (λ (os : List ℕ). header-leaves 12 os (lent 7)) ([] ∷ (0xEC ∷ []) ∷ ten ∷ (0xE1 ∷ 0x07 ∷ []) ∷ [])
+      ≡ left 0 [] [] (1 ∷ 0 ∷ 0 ∷ 0 ∷ 0 ∷ 0 ∷ 0xFF ∷ [])
+      ∷ left 0 [] [] (2 ∷ 0 ∷ 0 ∷ 0 ∷ 0 ∷ 0 ∷ 0xFF ∷ [])
+      ∷ left 0 [] [] (3 ∷ 1 ∷ 0 ∷ 5 ∷ 6 ∷ 10 ∷ 0xFF ∷ [])
+      ∷ left 0 [] [] (3 ∷ 2 ∷ 1 ∷ 0 ∷ 2 ∷ 7 ∷ 0xFF ∷ [])
+      ∷ []
+  pub refused : header-leaves 6 ten (lent 6) ≡ left 1 [] [] (0 ∷ 0 ∷ 0 ∷ 0 ∷ 0 ∷ 0 ∷ [])
+  pub short : header-leaves 6 ten (lent 5) ≡ left 2 [] [] (lent 5)
+  pub formed : map (λ (p : List ℕ). formed-leaves 12 p (lent 1)) (ten ∷ six ∷ [] ∷ [])
+      ≡ left 0 [] [] (1 ∷ []) ∷ left 0 [] [] (1 ∷ []) ∷ left 0 [] [] (2 ∷ []) ∷ []
+  pub wrapped : wrap-leaves 12 6 5 (0xAA ∷ 0xBB ∷ []) (lent 7) (lent 1) ≡ left 0 [] (six ++ (0xFF ∷ [])) (6 ∷ [])
+  pub unwrapped : unwrap-leaves 12 six (lent 4) ≡ left 0 [] [] (6 ∷ 5 ∷ 4 ∷ 2 ∷ [])
+  pub unit : unit-leaves (6 ∷ 5 ∷ 4 ∷ 2 ∷ []) six (lent 2) ≡ left 0 [] [] (4 ∷ 2 ∷ [])
+  pub no-unit : unit-leaves (6 ∷ 5 ∷ 4 ∷ 3 ∷ []) six (lent 2) ≡ left 0 [] [] (0 ∷ 0 ∷ [])
+  -- a space packet's header: total; version, type, secondary header, APID, flags, count, length field
+  pub space-read : read-space-leaves (0x10 ∷ 0x05 ∷ 0xC0 ∷ 0x09 ∷ 0x00 ∷ 0x01 ∷ []) (lent 8) ≡ left 0 [] [] (8 ∷ 0 ∷ 1 ∷ 0 ∷ 5 ∷ 3 ∷ 9 ∷ 1 ∷ [])
+  pub space-written : write-space-leaves (0 ∷ 1 ∷ 0 ∷ 5 ∷ 3 ∷ 9 ∷ 1 ∷ []) (lent 7)
+      ≡ left 0 [] (0x10 ∷ 0x05 ∷ 0xC0 ∷ 0x09 ∷ 0x00 ∷ 0x01 ∷ 0xFF ∷ []) []
+
+-- the multiplexer's record: count, octets laid, first start, octets taken; an answer: full, taken; a flush: nothing begun, or a frame
+pub record Multiplexer : Type 0 where
+  pub begun : begin-leaves (lent 5) ≡ left 0 (0 ∷ 0 ∷ 2047 ∷ 0 ∷ 0xFF ∷ []) [] []
+  pub taken : mux-leaves (to-put seven) 2 put-numbers settings (4 ∷ 0 ∷ 2047 ∷ 0 ∷ []) (lent 18) (lent 2)
+      ≡ left 0 (4 ∷ 7 ∷ 0 ∷ 0 ∷ []) (lent 8 ++ (seven ++ lent 3)) (0 ∷ 1 ∷ [])
+  pub full : mux-leaves (to-put seven) 2 put-numbers settings (4 ∷ 5 ∷ 0 ∷ 0 ∷ []) (lent 18) (lent 2)
+      ≡ left 0 (5 ∷ 0 ∷ 2047 ∷ 5 ∷ []) (frame 4 0x00 0x00 (lent 5 ++ (0x00 ∷ 0x05 ∷ 0xC0 ∷ 0x00 ∷ 0x00 ∷ []))) (1 ∷ 0 ∷ [])
+  pub nothing : mux-leaves to-flush 1 flush-numbers settings (4 ∷ 0 ∷ 2047 ∷ 0 ∷ []) (lent 18) (lent 1)
+      ≡ left 0 (4 ∷ 0 ∷ 2047 ∷ 0 ∷ []) (lent 18) (1 ∷ [])
+  pub flushed : mux-leaves to-flush 1 flush-numbers settings (4 ∷ 8 ∷ 0 ∷ 0 ∷ []) (lent 18) (lent 1)
+      ≡ left 0 (5 ∷ 0 ∷ 2047 ∷ 0 ∷ []) (frame 4 0x00 0x00 (lent 8 ++ (0xE1 ∷ 0x02 ∷ []))) (2 ∷ [])
+  pub refused : mux-leaves to-flush 1 flush-numbers settings (0 ∷ 0 ∷ 0 ∷ 0 ∷ []) (lent 18) (lent 1)
+      ≡ left 10 (0 ∷ 0 ∷ 0 ∷ 0 ∷ []) (lent 18) (0 ∷ [])
+
+-- a store that holds the first two octets of a packet of five, and a frame with its last three and an idle packet
+abbrev pub store : List ℕ
+store = 0xE9 ∷ 0x05 ∷ lent 10
+
+abbrev pub rest : List ℕ
+rest = 0x11 ∷ 0x22 ∷ 0x33 ∷ 0xE1 ∷ 0x07 ∷ 0x55 ∷ 0x55 ∷ 0x55 ∷ 0x55 ∷ 0x55 ∷ []
+
+-- the extractor's record: kind, last count, octets held, place of the walk; entering: entered, count, replay, lost, dropped, reason; a step:
+-- what it was, where the packet lies, its start, its size
+pub record Extractor : Type 0 where
+  pub entered : enter-leaves settings (2 ∷ 0 ∷ 2 ∷ 0 ∷ []) store (frame 1 0x00 0x03 rest) (lent 6)
+      ≡ left 0 (3 ∷ 1 ∷ 2 ∷ 0 ∷ []) [] (1 ∷ 1 ∷ 0 ∷ 0 ∷ 0 ∷ 0 ∷ [])
+  pub lost : enter-leaves settings (2 ∷ 0 ∷ 2 ∷ 0 ∷ []) store (frame 5 0x00 0x03 rest) (lent 6)
+      ≡ left 0 (3 ∷ 5 ∷ 0 ∷ 3 ∷ []) [] (1 ∷ 5 ∷ 0 ∷ 4 ∷ 2 ∷ 1 ∷ [])
+  pub early : enter-leaves settings (3 ∷ 1 ∷ 2 ∷ 0 ∷ []) store (frame 1 0x00 0x03 rest) (lent 6)
+      ≡ left 9 (3 ∷ 1 ∷ 2 ∷ 0 ∷ []) [] (0 ∷ 0 ∷ 0 ∷ 0 ∷ 0 ∷ 0 ∷ [])
+  pub in-store : step-leaves settings (3 ∷ 1 ∷ 2 ∷ 0 ∷ []) store (frame 1 0x00 0x03 rest) (lent 4)
+      ≡ left 0 (3 ∷ 1 ∷ 0 ∷ 3 ∷ []) (0xE9 ∷ 0x05 ∷ 0x11 ∷ 0x22 ∷ 0x33 ∷ lent 7) (1 ∷ 2 ∷ 0 ∷ 5 ∷ [])
+  pub in-frame : step-leaves settings (3 ∷ 1 ∷ 0 ∷ 3 ∷ []) store (frame 1 0x00 0x03 rest) (lent 4)
+      ≡ left 0 (3 ∷ 1 ∷ 0 ∷ 10 ∷ []) store (2 ∷ 1 ∷ 11 ∷ 7 ∷ [])
+  pub spent : step-leaves settings (3 ∷ 1 ∷ 0 ∷ 10 ∷ []) store (frame 1 0x00 0x03 rest) (lent 4)
+      ≡ left 0 (2 ∷ 1 ∷ 0 ∷ 0 ∷ []) store (4 ∷ 0 ∷ 0 ∷ 0 ∷ [])
+  pub damaged : step-leaves settings (3 ∷ 1 ∷ 0 ∷ 1 ∷ []) store (frame 1 0x00 0x03 rest) (lent 4)
+      ≡ left 0 (4 ∷ 1 ∷ 0 ∷ 0 ∷ []) store (3 ∷ 0 ∷ 0 ∷ 0 ∷ [])
+  pub shown : map (λ (step : List ℕ). show-leaves step (frame 1 0x00 0x03 rest) store (lent 3)) ((1 ∷ 2 ∷ 0 ∷ 5 ∷ []) ∷ (2 ∷ 1 ∷ 11 ∷ 7 ∷ []) ∷ (2 ∷ 1 ∷ 11 ∷ 8 ∷ []) ∷ [])
+      ≡ left 0 [] [] (2 ∷ 0 ∷ 5 ∷ []) ∷ left 0 [] [] (1 ∷ 11 ∷ 7 ∷ []) ∷ left 0 [] [] (0 ∷ 0 ∷ 0 ∷ []) ∷ []
+
+-- the judge's record: kind, tally, last count or first fault, octets held; the close: pass or fault, and its index
+pub record Judge : Type 0 where
+  pub judged : judge-leaves settings (1 ∷ 1 ∷ 0 ∷ 2 ∷ []) store (frame 1 0x00 0x03 rest)
+      ≡ left 0 (1 ∷ 2 ∷ 1 ∷ 0 ∷ []) (0xE9 ∷ 0x05 ∷ 0x11 ∷ 0x22 ∷ 0x33 ∷ lent 7) []
+  pub faulted : judge-leaves settings (1 ∷ 1 ∷ 0 ∷ 2 ∷ []) store (frame 2 0x00 0x03 rest) ≡ left 0 (2 ∷ 2 ∷ 1 ∷ 0 ∷ []) store []
+  pub closed : map (λ (record-array : List ℕ). close-leaves settings record-array store (lent 2)) ((0 ∷ 0 ∷ 0 ∷ 0 ∷ []) ∷ (1 ∷ 1 ∷ 0 ∷ 2 ∷ []) ∷ (2 ∷ 5 ∷ 3 ∷ 0 ∷ []) ∷ (3 ∷ 0 ∷ 0 ∷ 0 ∷ []) ∷ [])
+      ≡ left 0 [] [] (1 ∷ 0 ∷ []) ∷ left 0 [] [] (2 ∷ 1 ∷ []) ∷ left 0 [] [] (2 ∷ 3 ∷ []) ∷ left 10 [] [] (0 ∷ 0 ∷ []) ∷ []
+
+-- a writer's record: the count; a reader's: whether a frame was read, and its count; an answer: count, replay, loss, bits, where they lie and
+-- in how many octets
+pub record Bits : Type 0 where
+  pub written : write-leaves bit-settings (4 ∷ []) (0xAB ∷ []) 8 (lent 11) ≡ left 0 (5 ∷ []) (frame 4 0x00 0x07 (0xAB ∷ 0x55 ∷ 0xFF ∷ [])) []
+  pub read : read-leaves bit-settings (1 ∷ 2 ∷ []) (0x50 ∷ 0x83 ∷ 0x00 ∷ 0x00 ∷ 0x04 ∷ 0x80 ∷ 0x00 ∷ 0x08 ∷ 0xAB ∷ 0x55 ∷ []) (lent 6)
+      ≡ left 0 (1 ∷ 4 ∷ []) [] (4 ∷ 1 ∷ 1 ∷ 9 ∷ 8 ∷ 2 ∷ [])
+
+pub record InC : Type 0 where
+  pub stated : Settings
+  pub packets : Packets
+  pub multiplexer : Multiplexer
+  pub extractor : Extractor
+  pub judge : Judge
+  pub bits : Bits
