@@ -9,7 +9,6 @@ use Rattle.packets.specs.Wrap.{wrapped-total, wrap-rows}
 use Rattle.packets.specs.Wrap as packets
 use Rattle.space.specs.Space.{space-read-rows, space-rows, space-reading, space-writing}
 use Rattle.space.specs.declared.SpaceHeader.{SpaceHeader}
-use Rattle.frames.specs.Frame.{count}
 use Rattle.frames.specs.Statements.{HeadersRead}
 use Rattle.frames.specs.BitFrame.{bit-frame-length}
 use Rattle.frames.specs.declared.bits.BitSettings.{BitSettings}
