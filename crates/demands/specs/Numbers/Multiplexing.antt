@@ -48,10 +48,12 @@ pub record Refusals : Type 0 where
       ∷ refuses small begun to-idle (lent 17)
       ∷ refuses small (mux 16777216 0 2047 0) to-idle (lent 18)
       ∷ refuses small during to-idle (lent 18)
-      ∷ refuses small (mux 0 7 0 0) to-idle (lent 18)
+      ∷ refuses small (mux 0 1 0 0) to-idle (lent 18)
       ∷ refuses small begun to-idle (lent 18)
       ∷ []
       ≡ 1 ∷ 2 ∷ 10 ∷ 9 ∷ 9 ∷ 0 ∷ []
+  -- a packet is begun as soon as one octet of it is taken
+  pub just-begun : map (λ c. refuses small (mux 0 0 2047 1) c (lent 18)) (to-put (0xE0 ∷ []) ∷ to-flush ∷ to-idle ∷ []) ≡ 9 ∷ 9 ∷ 9 ∷ []
   -- the order: all that is wrong at once, and then one thing after another put right
   pub put-order : refuses broken wrong (to-put []) []
       ∷ refuses small wrong (to-put []) []

@@ -41,6 +41,7 @@ pub record Records : Type 0 where
   pub after : map (λ kind. taken (Ended 4) kind []) (1 ∷ 2 ∷ 3 ∷ []) ≡ Bad 6 ∷ Bad 6 ∷ Bad 6 ∷ []
   -- a frame past the judge's last is bad, and the end may follow the last
   pub last-frame : map (λ n. taken (running n) 2 (lent 18)) (16777215 ∷ 16777216 ∷ []) ≡ running 16777216 ∷ Bad 16777217 ∷ []
+  pub last-body : map (λ n. body-length (running n) 2) (16777215 ∷ 16777216 ∷ []) ≡ 18 ∷ 0 ∷ []
   pub last-end : taken (running 16777216) 3 [] ∷ closed (Ended 16777216) ∷ [] ≡ Ended 16777216 ∷ Ended 16777216 ∷ []
   -- input that ends before a 3 is cut
   pub cut : map closed (Start ∷ running 4 ∷ Ended 4 ∷ Bad 3 ∷ []) ≡ Bad 0 ∷ Bad 5 ∷ Ended 4 ∷ Bad 3 ∷ []
