@@ -126,8 +126,8 @@ def room(size: int) -> Any:
 
 
 def octets(given: Octets) -> Any:
-    """Octets that a call only reads."""
-    copied = bytes(given)
+    """Octets that a call only reads. A number is none, nor is a list of them: those raise `TypeError`."""
+    copied = memoryview(given).tobytes()
     return (ctypes.c_uint8 * len(copied)).from_buffer_copy(copied)
 
 

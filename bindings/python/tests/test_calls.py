@@ -176,6 +176,19 @@ class Calls(unittest.TestCase):
         self.assertEqual(none[6:8], b"\x3f\xfe")
         self.assertEqual(list(reader.read(none)), [])
 
+    def test_what_is_no_octets(self) -> None:
+        """A packet or a frame in place of a list of them is a row of numbers."""
+        calls: list[tuple[Callable[..., Any], Any, Any]] = [
+            (well_formed, LIMIT, 7),
+            (multiplex, SETTINGS, SPACE),
+            (judge, SETTINGS, FRAMES[0]),
+            (judge, SETTINGS, [[80, 131]]),
+            (judge, SETTINGS, ["50"]),
+        ]
+        for call, first, second in calls:
+            with self.assertRaises(TypeError):
+                call(first, second)
+
     def test_refusals(self) -> None:
         self.assertEqual(str(Refused(Refusal.POINTER)), "refused 7: the frame's pointer is one that cannot be")
         for refusal in Refusal:
