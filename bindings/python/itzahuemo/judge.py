@@ -14,9 +14,12 @@ _PASS = 1
 @dataclass(frozen=True)
 class Verdict:
     """How a run stands: `fault` is None where a conforming transmitter can have sent it, and else the index, from 0, of the first frame
-    that breaks the rules, or the number of frames where the run ends within a packet."""
+    that breaks the rules, or the number of frames where the run ends within a packet. As a condition it is true for a pass alone."""
 
     fault: Optional[int]
+
+    def __bool__(self) -> bool:
+        return self.passed
 
     @property
     def passed(self) -> bool:

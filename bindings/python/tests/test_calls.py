@@ -158,6 +158,8 @@ class Calls(unittest.TestCase):
         self.assertEqual(str(judge(SETTINGS, FRAMES[:1])), "fault 1")
         self.assertEqual(judge(SETTINGS, FRAMES[1:]).fault, 0)
         self.assertFalse(judge(SETTINGS, [FRAMES[0], b""]).passed)
+        self.assertTrue(judge(SETTINGS, FRAMES))
+        self.assertFalse(judge(SETTINGS, FRAMES[1:]))
 
     def test_bits(self) -> None:
         settings = BitSettings(66, 3, 1)
