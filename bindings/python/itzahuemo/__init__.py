@@ -9,6 +9,9 @@ A face on the proved library: what has to be remembered between calls is kept he
         for event in extractor.feed(frame):
             print(event)
     print(judge(settings, frames))
+
+An extractor, a judge, a multiplexer, a reader or a writer of bits is used by one thread at a time; different ones may be used at the
+same time.
 """
 
 from ._library import Refusal, Refused
