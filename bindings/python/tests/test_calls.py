@@ -87,9 +87,9 @@ class Calls(unittest.TestCase):
         self.assertEqual(unwrap(LIMIT, b"\xe9\x02").data, b"")
         self.refused(Refusal.PACKET, unwrap, LIMIT, SPACE)
         self.refused(Refusal.SPARE, unwrap, LIMIT, bytes.fromhex("EA050005DD"))
-        for size in (1, 253, 254, 1016):
+        for size, header in [(1, 2), (253, 2), (254, 4), (65531, 4), (65532, 8)]:
             packet = wrap(65542, 3, bytes(size))
-            self.assertEqual(len(packet), size + (2 if size < 254 else 4))
+            self.assertEqual(len(packet), size + header)
             self.assertEqual(unwrap(65542, packet).data, bytes(size))
 
     def test_space_headers(self) -> None:
@@ -100,6 +100,9 @@ class Calls(unittest.TestCase):
         full = SpaceHeader(2047, 65535, 3, 16383, 1, 1)
         self.assertEqual(full.to_octets(), bytes.fromhex("1FFFFFFFFFFF"))
         self.assertEqual(SpaceHeader.read(full.to_octets()), full)
+        command = SpaceHeader(apid=5, length_field=1, packet_type=1)
+        self.assertEqual(command.to_octets(), bytes.fromhex("1005C0000001"))
+        self.assertEqual(SpaceHeader.read(command.to_octets()), command)
         self.refused(Refusal.SETTING, SpaceHeader(2048, 0).to_octets)
         self.refused(Refusal.SETTING, SpaceHeader(5, 1, version=1).to_octets)
         self.refused(Refusal.PACKET, SpaceHeader.read, SPACE[:5])
@@ -133,9 +136,9 @@ class Calls(unittest.TestCase):
         extractor = Extractor(SETTINGS)
         extractor.feed(FRAMES[0])
         later = bytearray(FRAMES[1])
-        later[4] = 2
+        later[4:6] = b"\x02\x80"
         entered, _idle = extractor.feed(later)
-        self.assertEqual(entered, Entered(2, False, 1, 2, Reason.LOST))
+        self.assertEqual(entered, Entered(2, True, 1, 2, Reason.LOST))
 
     def test_frames_of_elsewhere(self) -> None:
         extractor = Extractor(SETTINGS)
@@ -174,6 +177,9 @@ class Calls(unittest.TestCase):
         self.assertEqual(list(bits), [False, True, True, True])
         self.assertTrue(reader.read(frame).lost)
         self.refused(Refusal.LENGTH, reader.read, frame[1:])
+        replayed = bytearray(frame)
+        replayed[4:6] = b"\x01\x80"
+        self.assertEqual(reader.read(replayed), Bits(1, True, False, 4, b"\x75"))
         none = writer.write(b"", 0)
         self.assertEqual(none[6:8], b"\x3f\xfe")
         self.assertEqual(list(reader.read(none)), [])
@@ -193,5 +199,7 @@ class Calls(unittest.TestCase):
 
     def test_refusals(self) -> None:
         self.assertEqual(str(Refused(Refusal.POINTER)), "refused 7: the frame's pointer is one that cannot be")
+        names = "SETTING ROOM LENGTH VERSION CHANNEL SPARE POINTER PACKET MOMENT RECORD LAST"
+        self.assertEqual([Refusal(number).name for number in range(1, 12)], names.split())
         for refusal in Refusal:
             self.assertIn(f"refused {int(refusal)}: ", str(Refused(refusal)))

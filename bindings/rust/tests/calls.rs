@@ -67,10 +67,10 @@ fn data_units_are_wrapped() {
     assert_eq!(unwrap(LIMIT, &[0xE9, 0x02]).unwrap().data, []);
     assert_eq!(unwrap(LIMIT, &SPACE), Err(Refusal::Packet));
     assert_eq!(unwrap(LIMIT, &[0xEA, 0x05, 0x00, 0x05, 0xDD]), Err(Refusal::Spare));
-    for size in [1, 253, 254, 1_016] {
+    for (size, header) in [(1, 2), (253, 2), (254, 4), (65_531, 4), (65_532, 8)] {
         let data = vec![0xA5; size];
         let packet = wrap(65_542, 3, 0, &data).unwrap();
-        assert_eq!(packet.len(), size + if size < 254 { 2 } else { 4 });
+        assert_eq!(packet.len(), size + header);
         assert_eq!(unwrap(65_542, &packet).unwrap().data, data);
     }
 }
@@ -93,6 +93,9 @@ fn space_headers_are_read_and_written() {
     };
     assert_eq!(full.to_octets(), Ok([0x1F, 0xFF, 0xFF, 0xFF, 0xFF, 0xFF]));
     assert_eq!(SpaceHeader::read(&full.to_octets().unwrap()), Ok(full));
+    let command = SpaceHeader { packet_type: 1, ..header };
+    assert_eq!(command.to_octets(), Ok([0x10, 0x05, 0xC0, 0x00, 0x00, 0x01]));
+    assert_eq!(SpaceHeader::read(&command.to_octets().unwrap()), Ok(command));
     assert_eq!(SpaceHeader { apid: 2_048, ..header }.to_octets(), Err(Refusal::Setting));
     assert_eq!(SpaceHeader { version: 1, ..header }.to_octets(), Err(Refusal::Setting));
     assert_eq!(header.write(&mut [0; 5]), Err(Refusal::Room));
@@ -142,9 +145,9 @@ fn what_is_missing_is_told() {
     let mut extractor = Extractor::new(settings());
     extractor.feed(&frames[0]).unwrap();
     let mut later = frames[1].clone();
-    later[4] = 2;
+    later[4..6].copy_from_slice(&[2, 0x80]);
     let mut events = extractor.feed(&later).unwrap();
-    let told = Entered { count: 2, replay: false, lost: 1, dropped: 2, reason: Reason::Lost };
+    let told = Entered { count: 2, replay: true, lost: 1, dropped: 2, reason: Reason::Lost };
     assert_eq!(entered(events.next()), told);
     assert!(matches!(events.next(), Some(Event::Packet(packet)) if packet.header.idle));
     assert_eq!(events.next(), None);
@@ -207,6 +210,10 @@ fn bits_go_round() {
     assert_eq!(bits, Bits { count: 0, replay: false, lost: false, number: 4, octets: &[0x75] });
     assert!(reader.read(&frame).unwrap().lost);
     assert_eq!(reader.read(&frame[1..]), Err(Refusal::Length));
+    let mut replayed = frame.clone();
+    replayed[4..6].copy_from_slice(&[1, 0x80]);
+    let bits = reader.read(&replayed).unwrap();
+    assert_eq!(bits, Bits { count: 1, replay: true, lost: false, number: 4, octets: &[0x75] });
     let none = writer.write(&[], 0).unwrap();
     assert_eq!(none[6..8], [0x3F, 0xFE]);
     assert_eq!(reader.read(&none).unwrap().iter().count(), 0);
@@ -215,6 +222,7 @@ fn bits_go_round() {
 #[test]
 fn refusals_say_why() {
     assert_eq!(Refusal::Pointer.number(), 7);
+    assert_eq!(Refusal::Record.number(), 10);
     let said = Refusal::Pointer.to_string();
     assert_eq!(said, "refused 7: the frame's pointer is one that cannot be");
     let error: Box<dyn std::error::Error + Send + Sync> = Refusal::Last.into();
