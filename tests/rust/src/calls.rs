@@ -35,104 +35,60 @@ pub const BIT_WRITER: usize = 1;
 pub const BIT_READER: usize = 2;
 pub const BITS: usize = 6;
 
-/// The calls. Each answers a refusal number, 0 when it was not refused.
-pub trait Calls {
-    fn read_header(&self, limit: u64, octets: &[u8], answer: &mut [u64]) -> u64;
-
-    fn well_formed(&self, limit: u64, packet: &[u8], answer: &mut [u64]) -> u64;
-
-    fn wrap(
-        &self,
-        limit: u64,
-        protocol: u64,
-        extension: u64,
-        data: &[u8],
-        packet: &mut [u8],
-        answer: &mut [u64],
-    ) -> u64;
-
-    fn unwrap(&self, limit: u64, packet: &[u8], answer: &mut [u64]) -> u64;
-
-    fn unit_part(&self, unwrapped: &[u64], packet: &[u8], answer: &mut [u64]) -> u64;
-
-    fn mux_begin(&self, record: &mut [u64]) -> u64;
-
-    fn read_space(&self, octets: &[u8], answer: &mut [u64]) -> u64;
-
-    fn write_space(&self, header: &[u64], octets: &mut [u8]) -> u64;
-
-    fn mux_put(
-        &self,
-        settings: &[u64],
-        record: &mut [u64],
-        packet: &[u8],
-        frame: &mut [u8],
-        answer: &mut [u64],
-    ) -> u64;
-
-    fn mux_flush(
-        &self,
-        settings: &[u64],
-        record: &mut [u64],
-        frame: &mut [u8],
-        answer: &mut [u64],
-    ) -> u64;
-
-    fn mux_idle(&self, settings: &[u64], record: &mut [u64], frame: &mut [u8]) -> u64;
-
-    fn extractor_enter(
-        &self,
-        settings: &[u64],
-        record: &mut [u64],
-        store: &[u8],
-        frame: &[u8],
-        answer: &mut [u64],
-    ) -> u64;
-
-    fn extractor_step(
-        &self,
-        settings: &[u64],
-        record: &mut [u64],
-        store: &mut [u8],
-        frame: &[u8],
-        answer: &mut [u64],
-    ) -> u64;
-
-    fn show(&self, step: &[u64], frame: &[u8], store: &[u8], answer: &mut [u64]) -> u64;
-
-    fn judge_frame(
-        &self,
-        settings: &[u64],
-        record: &mut [u64],
-        store: &mut [u8],
-        frame: &[u8],
-    ) -> u64;
-
-    fn judge_close(
-        &self,
-        settings: &[u64],
-        record: &[u64],
-        store: &[u8],
-        answer: &mut [u64],
-    ) -> u64;
-
-    fn bits_write(
-        &self,
-        settings: &[u64],
-        record: &mut [u64],
-        bits: &[u8],
-        number: u64,
-        frame: &mut [u8],
-    ) -> u64;
-
-    fn bits_read(
-        &self,
-        settings: &[u64],
-        record: &mut [u64],
-        frame: &[u8],
-        answer: &mut [u64],
-    ) -> u64;
+/// Every call of include/itzahuemo.h, in the header's order: its name without `itz_` and what it is
+/// lent. The trait, the library's declarations and all that only forwards a call are made from this
+/// table: `each_call!(made)` hands it to the macro `made`.
+#[macro_export]
+macro_rules! each_call {
+    ($then:ident) => {
+        $then! {
+            read_header(limit: u64, octets: &[u8], answer: &mut [u64]);
+            well_formed(limit: u64, packet: &[u8], answer: &mut [u64]);
+            wrap(
+                limit: u64, protocol: u64, extension: u64,
+                data: &[u8], packet: &mut [u8], answer: &mut [u64]
+            );
+            unwrap(limit: u64, packet: &[u8], answer: &mut [u64]);
+            unit_part(unwrapped: &[u64], packet: &[u8], answer: &mut [u64]);
+            read_space(octets: &[u8], answer: &mut [u64]);
+            write_space(header: &[u64], octets: &mut [u8]);
+            mux_begin(record: &mut [u64]);
+            mux_put(
+                settings: &[u64], record: &mut [u64],
+                packet: &[u8], frame: &mut [u8], answer: &mut [u64]
+            );
+            mux_flush(settings: &[u64], record: &mut [u64], frame: &mut [u8], answer: &mut [u64]);
+            mux_idle(settings: &[u64], record: &mut [u64], frame: &mut [u8]);
+            extractor_enter(
+                settings: &[u64], record: &mut [u64],
+                store: &[u8], frame: &[u8], answer: &mut [u64]
+            );
+            extractor_step(
+                settings: &[u64], record: &mut [u64],
+                store: &mut [u8], frame: &[u8], answer: &mut [u64]
+            );
+            show(step: &[u64], frame: &[u8], store: &[u8], answer: &mut [u64]);
+            judge_frame(settings: &[u64], record: &mut [u64], store: &mut [u8], frame: &[u8]);
+            judge_close(settings: &[u64], record: &[u64], store: &[u8], answer: &mut [u64]);
+            bits_write(
+                settings: &[u64], record: &mut [u64],
+                bits: &[u8], number: u64, frame: &mut [u8]
+            );
+            bits_read(settings: &[u64], record: &mut [u64], frame: &[u8], answer: &mut [u64]);
+        }
+    };
 }
+
+macro_rules! the_trait {
+    ($($name:ident($($arguments:tt)*);)*) => {
+        /// The calls. Each answers a refusal number, 0 when it was not refused.
+        pub trait Calls {
+            $(fn $name(&self, $($arguments)*) -> u64;)*
+        }
+    };
+}
+
+each_call!(the_trait);
 
 /// The calls as document 01 has them.
 #[derive(Clone, Copy, Debug, Default)]

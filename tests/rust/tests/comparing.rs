@@ -2,6 +2,7 @@
 //! refusal, and sees through impostors.
 
 use itzahuemo_reference::calls::{Calls, Reference};
+use itzahuemo_reference::each_call;
 use itzahuemo_reference::orders::ORDERS;
 use itzahuemo_reference::sessions::{session, Tally};
 
@@ -81,173 +82,45 @@ impl Impostor {
     }
 }
 
-impl Calls for Impostor {
-    fn read_header(&self, limit: u64, octets: &[u8], answer: &mut [u64]) -> u64 {
-        self.made("read_header", &mut [], &mut [], answer, |_, _, answer| {
-            Reference.read_header(limit, octets, answer)
+// Picks what a call may write out of its arguments in the table, one by one: octets are the buffer,
+// numbers at the end are the answer, and other numbers the record. Behind the three stand all the
+// arguments so far.
+macro_rules! made {
+    ($self:ident $name:ident $record:ident $buffer:ident $answer:ident ($($value:ident)*)) => {
+        $self.made(stringify!($name), $record, $buffer, $answer, |$record, $buffer, $answer| {
+            Reference.$name($($value),*)
         })
-    }
-
-    fn well_formed(&self, limit: u64, packet: &[u8], answer: &mut [u64]) -> u64 {
-        self.made("well_formed", &mut [], &mut [], answer, |_, _, answer| {
-            Reference.well_formed(limit, packet, answer)
-        })
-    }
-
-    fn wrap(
-        &self,
-        limit: u64,
-        protocol: u64,
-        extension: u64,
-        data: &[u8],
-        packet: &mut [u8],
-        answer: &mut [u64],
-    ) -> u64 {
-        self.made("wrap", &mut [], packet, answer, |_, packet, answer| {
-            Reference.wrap(limit, protocol, extension, data, packet, answer)
-        })
-    }
-
-    fn unwrap(&self, limit: u64, packet: &[u8], answer: &mut [u64]) -> u64 {
-        self.made("unwrap", &mut [], &mut [], answer, |_, _, answer| {
-            Reference.unwrap(limit, packet, answer)
-        })
-    }
-
-    fn read_space(&self, octets: &[u8], answer: &mut [u64]) -> u64 {
-        self.made("read_space", &mut [], &mut [], answer, |_, _, answer| {
-            Reference.read_space(octets, answer)
-        })
-    }
-
-    fn write_space(&self, header: &[u64], octets: &mut [u8]) -> u64 {
-        self.made("write_space", &mut [], octets, &mut [], |_, octets, _| {
-            Reference.write_space(header, octets)
-        })
-    }
-
-    fn unit_part(&self, unwrapped: &[u64], packet: &[u8], answer: &mut [u64]) -> u64 {
-        self.made("unit_part", &mut [], &mut [], answer, |_, _, answer| {
-            Reference.unit_part(unwrapped, packet, answer)
-        })
-    }
-
-    fn mux_begin(&self, record: &mut [u64]) -> u64 {
-        self.made("mux_begin", record, &mut [], &mut [], |record, _, _| Reference.mux_begin(record))
-    }
-
-    fn mux_put(
-        &self,
-        settings: &[u64],
-        record: &mut [u64],
-        packet: &[u8],
-        frame: &mut [u8],
-        answer: &mut [u64],
-    ) -> u64 {
-        self.made("mux_put", record, frame, answer, |record, frame, answer| {
-            Reference.mux_put(settings, record, packet, frame, answer)
-        })
-    }
-
-    fn mux_flush(
-        &self,
-        settings: &[u64],
-        record: &mut [u64],
-        frame: &mut [u8],
-        answer: &mut [u64],
-    ) -> u64 {
-        self.made("mux_flush", record, frame, answer, |record, frame, answer| {
-            Reference.mux_flush(settings, record, frame, answer)
-        })
-    }
-
-    fn mux_idle(&self, settings: &[u64], record: &mut [u64], frame: &mut [u8]) -> u64 {
-        self.made("mux_idle", record, frame, &mut [], |record, frame, _| {
-            Reference.mux_idle(settings, record, frame)
-        })
-    }
-
-    fn extractor_enter(
-        &self,
-        settings: &[u64],
-        record: &mut [u64],
-        store: &[u8],
-        frame: &[u8],
-        answer: &mut [u64],
-    ) -> u64 {
-        self.made("extractor_enter", record, &mut [], answer, |record, _, answer| {
-            Reference.extractor_enter(settings, record, store, frame, answer)
-        })
-    }
-
-    fn extractor_step(
-        &self,
-        settings: &[u64],
-        record: &mut [u64],
-        store: &mut [u8],
-        frame: &[u8],
-        answer: &mut [u64],
-    ) -> u64 {
-        self.made("extractor_step", record, store, answer, |record, store, answer| {
-            Reference.extractor_step(settings, record, store, frame, answer)
-        })
-    }
-
-    fn show(&self, step: &[u64], frame: &[u8], store: &[u8], answer: &mut [u64]) -> u64 {
-        self.made("show", &mut [], &mut [], answer, |_, _, answer| {
-            Reference.show(step, frame, store, answer)
-        })
-    }
-
-    fn judge_frame(
-        &self,
-        settings: &[u64],
-        record: &mut [u64],
-        store: &mut [u8],
-        frame: &[u8],
-    ) -> u64 {
-        self.made("judge_frame", record, store, &mut [], |record, store, _| {
-            Reference.judge_frame(settings, record, store, frame)
-        })
-    }
-
-    fn judge_close(
-        &self,
-        settings: &[u64],
-        record: &[u64],
-        store: &[u8],
-        answer: &mut [u64],
-    ) -> u64 {
-        self.made("judge_close", &mut [], &mut [], answer, |_, _, answer| {
-            Reference.judge_close(settings, record, store, answer)
-        })
-    }
-
-    fn bits_write(
-        &self,
-        settings: &[u64],
-        record: &mut [u64],
-        bits: &[u8],
-        number: u64,
-        frame: &mut [u8],
-    ) -> u64 {
-        self.made("bits_write", record, frame, &mut [], |record, frame, _| {
-            Reference.bits_write(settings, record, bits, number, frame)
-        })
-    }
-
-    fn bits_read(
-        &self,
-        settings: &[u64],
-        record: &mut [u64],
-        frame: &[u8],
-        answer: &mut [u64],
-    ) -> u64 {
-        self.made("bits_read", record, &mut [], answer, |record, _, answer| {
-            Reference.bits_read(settings, record, frame, answer)
-        })
-    }
+    };
+    ($self:ident $name:ident $record:ident $buffer:ident $answer:ident ($($value:ident)*)
+        $octets:ident: &mut [u8], $($rest:tt)*) => {
+        made!($self $name $record $octets $answer ($($value)* $octets) $($rest)*)
+    };
+    ($self:ident $name:ident $record:ident $buffer:ident $answer:ident ($($value:ident)*)
+        $numbers:ident: &mut [u64],) => {
+        made!($self $name $record $buffer $numbers ($($value)* $numbers))
+    };
+    ($self:ident $name:ident $record:ident $buffer:ident $answer:ident ($($value:ident)*)
+        $numbers:ident: &mut [u64], $($rest:tt)*) => {
+        made!($self $name $numbers $buffer $answer ($($value)* $numbers) $($rest)*)
+    };
+    ($self:ident $name:ident $record:ident $buffer:ident $answer:ident ($($value:ident)*)
+        $read:ident: $type:ty, $($rest:tt)*) => {
+        made!($self $name $record $buffer $answer ($($value)* $read) $($rest)*)
+    };
 }
+
+macro_rules! the_impostor {
+    ($($name:ident($($arguments:tt)*);)*) => {
+        impl Calls for Impostor {
+            $(fn $name(&self, $($arguments)*) -> u64 {
+                let (_record, _buffer, _answer) = (&mut [0; 0], &mut [0; 0], &mut [0; 0]);
+                made!(self $name _record _buffer _answer () $($arguments)*,)
+            })*
+        }
+    };
+}
+
+each_call!(the_impostor);
 
 /// The call in which the comparison first sees through an impostor.
 fn seen(change: fn(&[u64], &[u8], Outcome)) -> &'static str {
