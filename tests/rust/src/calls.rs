@@ -242,14 +242,7 @@ impl Calls for Reference {
             let mut state = read_extractor(record);
             let entered = extractor::enter(&settings, &mut state, store, frame)?;
             *record = extractor_numbers(&state);
-            Ok([
-                1,
-                entered.count.into(),
-                entered.replay.into(),
-                entered.lost.into(),
-                entered.dropped as u64,
-                entered.reason as u64,
-            ])
+            Ok(entered_numbers(&entered))
         })
     }
 
@@ -508,6 +501,11 @@ fn extractor_numbers(record: &extractor::Record) -> [u64; EXTRACTOR] {
         Record::Walking { last, held, at } => [3, last.into(), held as u64, at as u64],
         Record::Leaving { last } => [4, last.into(), 0, 0],
     }
+}
+
+pub(crate) fn entered_numbers(entered: &extractor::Entered) -> [u64; ENTERED] {
+    let extractor::Entered { count, replay, lost, dropped, reason } = *entered;
+    [1, count.into(), replay.into(), lost.into(), dropped as u64, reason as u64]
 }
 
 /// Numbers that stand for no record are read as one that no call leaves.

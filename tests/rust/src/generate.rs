@@ -233,6 +233,15 @@ fn flush(settings: &Settings, record: &mut multiplexer::Record, frame: &mut [u8]
     }
 }
 
+/// A run that conforms, or one spoilt in up to four ways.
+pub fn some_run(random: &mut Random, settings: &Settings) -> Vec<Vec<u8>> {
+    let mut frames = run(random, settings, true).frames;
+    for _ in 0..random.within(0, 4) {
+        spoil(random, settings, &mut frames);
+    }
+    frames
+}
+
 /// Spoils a run in one way. Frames may come out with another length.
 pub fn spoil(random: &mut Random, settings: &Settings, frames: &mut Vec<Vec<u8>>) {
     if frames.is_empty() {

@@ -394,15 +394,6 @@ fn idle(pair: &mut Pair, numbers: &[u64], lent: &mut Lent) -> Result<(), Differe
     Ok(())
 }
 
-/// A run that conforms, or one spoilt in up to four ways.
-fn some_run(random: &mut Random, settings: &Settings) -> Vec<Vec<u8>> {
-    let mut frames = generate::run(random, settings, true).frames;
-    for _ in 0..random.within(0, 4) {
-        generate::spoil(random, settings, &mut frames);
-    }
-    frames
-}
-
 /// A store of random octets; seldom too short.
 fn some_store(random: &mut Random, settings: &Settings) -> Vec<u8> {
     let size = if random.once_in(60) {
@@ -415,7 +406,7 @@ fn some_store(random: &mut Random, settings: &Settings) -> Vec<u8> {
 
 fn extracting(pair: &mut Pair, random: &mut Random) -> Result<(), Difference> {
     let settings = generate::settings(random);
-    let frames = some_run(random, &settings);
+    let frames = generate::some_run(random, &settings);
     let mut lent = Lent {
         record: vec![0; calls::EXTRACTOR],
         buffer: some_store(random, &settings),
@@ -548,7 +539,7 @@ fn show(
 
 fn judging(pair: &mut Pair, random: &mut Random) -> Result<(), Difference> {
     let settings = generate::settings(random);
-    let frames = some_run(random, &settings);
+    let frames = generate::some_run(random, &settings);
     let mut lent = Lent {
         record: vec![0; calls::JUDGE],
         buffer: some_store(random, &settings),
@@ -673,7 +664,7 @@ fn any_record(pair: &mut Pair, random: &mut Random) -> Result<(), Difference> {
         let front = generate::front(random, settings.limit);
         let size = front.len().min(store.len());
         store[..size].copy_from_slice(&front[..size]);
-        let frames = some_run(random, &settings);
+        let frames = generate::some_run(random, &settings);
         let frame = if frames.is_empty() || random.once_in(4) {
             let mut frame = random.octets(settings.frame_length());
             frame[..2].copy_from_slice(&[0x40, 0x00]);

@@ -1,4 +1,5 @@
-//! Compares the library with the reference, call by call, over random runs.
+//! Compares the library with the reference, call by call, over random runs, and
+//! with the plain extractor, event by event.
 //!
 //! Usage: `compare [RUNS [SEED]]`. Run number i has the seed SEED + i, so a run
 //! that differs is made again by `compare 1 SEED`.
@@ -8,6 +9,7 @@ use std::process::ExitCode;
 
 use itzahuemo_reference::calls::Reference;
 use itzahuemo_reference::ffi::Library;
+use itzahuemo_reference::hearing;
 use itzahuemo_reference::sessions::{session, Tally};
 
 const RUNS: u64 = 100_000;
@@ -33,13 +35,17 @@ fn compare(runs: u64, seed: u64) -> ExitCode {
     let mut differ = 0;
     for run in 0..runs {
         let seed = seed.wrapping_add(run);
-        match session(&Reference, &Library, seed) {
-            Ok(met) => tally.add(&met),
-            Err(difference) => {
-                differ += 1;
-                if differ <= SHOWN {
-                    println!("run {run} seed {seed}: {difference} (reference first)");
-                }
+        let difference = match session(&Reference, &Library, seed) {
+            Ok(met) => {
+                tally.add(&met);
+                hearing::plain_session(&Library, seed).err()
+            }
+            Err(difference) => Some(format!("{difference} (reference first)")),
+        };
+        if let Some(difference) = difference {
+            differ += 1;
+            if differ <= SHOWN {
+                println!("run {run} seed {seed}: {difference}");
             }
         }
     }
