@@ -64,7 +64,7 @@ fn channel(zone: usize, limit: usize) -> Settings {
     Settings { spacecraft: 66, channel: 3, zone, limit, fill: 0x55 }
 }
 
-fn setup_record(settings: &Settings) -> Vec<u8> {
+pub fn setup_record(settings: &Settings) -> Vec<u8> {
     let zone = (settings.zone as u16).to_be_bytes();
     let limit = (settings.limit as u32).to_be_bytes();
     let mut record = vec![SETUP, settings.spacecraft, settings.channel];

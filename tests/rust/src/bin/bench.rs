@@ -1,104 +1,141 @@
-//! Times the library's extractor against the reference's.
+//! What the library takes, beside the reference in Rust and the plain extractor.
 //!
-//! Usage: `bench [FRAMES [ROUNDS]]`. The frames are made first, and are the same
-//! buffers for both. Each round times one and then the other over all of them;
-//! the best round of each counts.
+//! The script `bench` at the top of the project calls it:
+//!
+//!     bench run FRAMES                           writes a run file
+//!     bench read                                 the reference's program: a run file in, its report out
+//!     bench compare FRAMES                       compares all that the two sides of each work say
+//!     bench work WORK SIDE FRAMES ROUNDS         does the work so often, for a counter of instructions
+//!     bench times FRAMES ROUNDS RUN PROGRAM      a line `WORK SIDE NANOSECONDS` for each, of a frame in
+//!                                                the best round; RUN is a run file of as many frames
+//!
+//! The input is made first, and all sides are lent the same buffers.
 
 use std::env;
-use std::process::ExitCode;
+use std::error::Error;
+use std::fs::File;
+use std::io::{self, Read, Write};
+use std::process::{Command, ExitCode, Stdio};
 use std::time::{Duration, Instant};
 
 use itzahuemo_reference::calls::{self, Calls, Reference};
+use itzahuemo_reference::cases::setup_record;
 use itzahuemo_reference::ffi::Library;
 use itzahuemo_reference::generate;
+use itzahuemo_reference::hearing::{ByCalls, Hearing};
+use itzahuemo_reference::plain::{self, Event};
 use itzahuemo_reference::random::Random;
-use itzahuemo_reference::reference::extractor::{self, Record, Step};
+use itzahuemo_reference::reference::extractor::{self, Step};
 use itzahuemo_reference::reference::frame::Settings;
-use itzahuemo_reference::reference::multiplexer;
+use itzahuemo_reference::reference::runfile::{self, aosread};
+use itzahuemo_reference::reference::{judge, multiplexer};
 
-const FRAMES: usize = 100_000;
-const ROUNDS: usize = 7;
 const SEED: u64 = 7_321;
 
 const CHANNEL: Settings =
     Settings { spacecraft: 66, channel: 3, zone: 1_000, limit: 1_024, fill: 0x55 };
 
 fn main() -> ExitCode {
-    let mut numbers = env::args().skip(1).map(|argument| argument.parse::<usize>());
-    match (numbers.next().unwrap_or(Ok(FRAMES)), numbers.next().unwrap_or(Ok(ROUNDS))) {
-        (Ok(frames), Ok(rounds)) => bench(frames, rounds),
-        _ => {
-            eprintln!("usage: bench [FRAMES [ROUNDS]]");
-            ExitCode::from(2)
+    let arguments: Vec<String> = env::args().skip(1).collect();
+    let arguments: Vec<&str> = arguments.iter().map(String::as_str).collect();
+    match done(&arguments) {
+        Ok(()) => ExitCode::SUCCESS,
+        Err(error) => {
+            eprintln!("bench: {error}");
+            ExitCode::FAILURE
         }
     }
 }
 
-fn bench(frames: usize, rounds: usize) -> ExitCode {
-    println!("seed {SEED}, {frames} frames, zone {}, {rounds} rounds", CHANNEL.zone);
-    let octets = make(frames);
-    if let Err(place) = same_events(&octets) {
-        println!("the two differ in frame {place}");
-        return ExitCode::FAILURE;
+fn done(arguments: &[&str]) -> Result<(), Box<dyn Error>> {
+    match *arguments {
+        ["run", frames] => write_run(frames.parse()?),
+        ["read"] => read_run(),
+        ["compare", frames] => compare(&Input::new(frames.parse()?)),
+        ["work", work, side, frames, rounds] => {
+            let side = side_of(work, side)?;
+            let input = Input::new(frames.parse()?);
+            let mut output = vec![0; input.frames.len()];
+            for _ in 0..rounds.parse()? {
+                side(&input, &mut output);
+            }
+            Ok(())
+        }
+        ["times", frames, rounds, run, program] => {
+            times(&Input::new(frames.parse()?), rounds.parse()?, run, program)
+        }
+        _ => Err("no such use; its source says which there are".into()),
     }
-    let mut best = [Duration::MAX; 2];
-    for _ in 0..rounds.max(1) {
-        let (first, by_reference) = timed(|| by_reference(&octets));
-        let (second, by_library) = timed(|| by_library(&octets));
-        assert_eq!(by_reference, by_library, "both hear the same");
-        best = [best[0].min(first), best[1].min(second)];
-    }
-    let Heard { packets, octets, .. } = by_reference(&octets);
-    println!("packets {packets}, octets in them {octets}");
-    let [reference, library] = best;
-    println!("reference {reference:.2?}, library {library:.2?}");
-    println!("ratio {:.2}", library.as_secs_f64() / reference.as_secs_f64());
-    ExitCode::SUCCESS
 }
 
-/// Frames end to end, full of packets of 7 to 1,024 octets.
-fn make(frames: usize) -> Vec<u8> {
-    let mut random = Random::new(SEED);
-    let size = CHANNEL.frame_length();
-    let mut octets = vec![0; frames * size];
-    let mut record = multiplexer::Record::START;
-    let mut packet = Vec::new();
-    for frame in octets.chunks_exact_mut(size) {
-        loop {
-            if packet.is_empty() {
-                let total = random.within(7, 1_024);
-                packet = generate::packet_of(&mut random, total);
-            }
-            let put = multiplexer::put(&CHANNEL, &mut record, &packet, frame)
-                .expect("a well-formed packet");
-            if put.taken {
-                packet.clear();
-            }
-            if put.full {
-                break;
+/// A transmitter's packets of 7 to 1,024 octets, and the frames that they fill.
+struct Input {
+    /// Those of the channel, as numbers that no side is compiled with.
+    settings: Settings,
+    packets: Vec<Vec<u8>>,
+    /// Frames, end to end.
+    frames: Vec<u8>,
+}
+
+impl Input {
+    fn new(frames: usize) -> Input {
+        let mut random = Random::new(SEED);
+        let octets = vec![0; frames * CHANNEL.frame_length()];
+        let mut input = Input { settings: CHANNEL, packets: Vec::new(), frames: octets };
+        let mut record = multiplexer::Record::START;
+        for frame in input.frames.chunks_exact_mut(CHANNEL.frame_length()) {
+            let mut full = false;
+            while !full {
+                if record.taken == 0 {
+                    let total = random.within(7, 1_024);
+                    input.packets.push(generate::packet_of(&mut random, total));
+                }
+                let packet = input.packets.last().expect("a packet is in work");
+                let put = multiplexer::put(&CHANNEL, &mut record, packet, frame);
+                full = put.expect("a well-formed packet at its moment").full;
             }
         }
+        input
     }
-    octets
+
+    fn frames(&self) -> impl Iterator<Item = &[u8]> {
+        self.frames.chunks_exact(self.settings.frame_length())
+    }
 }
 
-fn timed<T>(work: impl FnOnce() -> T) -> (Duration, T) {
-    let start = Instant::now();
-    let done = work();
-    (start.elapsed(), done)
+/// What came of a work: numbers that every side of it must have.
+type Outcome = [u64; 4];
+
+/// One way to do a work on the input; what it writes goes to the lent octets.
+type Side = fn(&Input, &mut [u8]) -> Outcome;
+
+/// Every work with its sides, the library's first.
+const SIDES: [(&str, &str, Side); 7] = [
+    ("extractor", "library", extractor_by_library),
+    ("extractor", "reference", extractor_by_reference),
+    ("extractor", "plain", extractor_by_plain),
+    ("multiplexer", "library", multiplexer_by_library),
+    ("multiplexer", "reference", multiplexer_by_reference),
+    ("judge", "library", judge_by_library),
+    ("judge", "reference", judge_by_reference),
+];
+
+fn side_of(work: &str, side: &str) -> Result<Side, String> {
+    let found = SIDES.iter().find(|known| (known.0, known.1) == (work, side));
+    found.map(|known| known.2).ok_or_else(|| format!("no work {work} {side}"))
 }
 
 /// What was heard of all frames. The first and last octet of each packet are
 /// looked at, so that it has to be where it is said to be.
-#[derive(Debug, Default, PartialEq, Eq)]
-struct Heard {
+#[derive(Default)]
+struct Sum {
     lost: u64,
     packets: u64,
     octets: u64,
     ends: u64,
 }
 
-impl Heard {
+impl Sum {
     fn packet(&mut self, packet: &[u8]) {
         self.packets += 1;
         self.octets += packet.len() as u64;
@@ -106,41 +143,24 @@ impl Heard {
             self.ends += u64::from(first) + u64::from(last);
         }
     }
-}
 
-#[inline(never)]
-fn by_reference(octets: &[u8]) -> Heard {
-    let mut heard = Heard::default();
-    let mut store = [0; CHANNEL.limit];
-    let mut record = Record::Fresh;
-    for frame in octets.chunks_exact(CHANNEL.frame_length()) {
-        let entered = extractor::enter(&CHANNEL, &mut record, &store, frame);
-        heard.lost += u64::from(entered.expect("a frame of the channel").lost);
-        loop {
-            match extractor::step(&CHANNEL, &mut record, &mut store, frame) {
-                Ok(Step::Packet { part, .. }) => {
-                    heard.packet(extractor::show(part, &store, frame));
-                }
-                Ok(Step::Spent) => break,
-                other => panic!("{other:?} in a run that conforms"),
-            }
-        }
+    fn outcome(self) -> Outcome {
+        [self.lost, self.packets, self.octets, self.ends]
     }
-    heard
 }
 
 #[inline(never)]
-fn by_library(octets: &[u8]) -> Heard {
-    let mut heard = Heard::default();
-    let settings = generate::settings_numbers(&CHANNEL);
-    let mut store = [0; CHANNEL.limit];
+fn extractor_by_library(input: &Input, _: &mut [u8]) -> Outcome {
+    let mut sum = Sum::default();
+    let settings = generate::settings_numbers(&input.settings);
+    let mut store = vec![0; input.settings.limit];
     let mut record = [0; calls::EXTRACTOR];
     let mut entered = [0; calls::ENTERED];
     let mut step = [0; calls::STEP];
-    for frame in octets.chunks_exact(CHANNEL.frame_length()) {
+    for frame in input.frames() {
         let refusal = Library.extractor_enter(&settings, &mut record, &store, frame, &mut entered);
         assert_eq!(refusal, 0, "a frame of the channel");
-        heard.lost += entered[3];
+        sum.lost += entered[3];
         loop {
             let refusal =
                 Library.extractor_step(&settings, &mut record, &mut store, frame, &mut step);
@@ -150,46 +170,207 @@ fn by_library(octets: &[u8]) -> Heard {
                 4 => break,
                 1 | 2 => {
                     let buffer = if place == 1 { frame } else { &store[..] };
-                    heard.packet(&buffer[start as usize..][..size as usize]);
+                    sum.packet(&buffer[start as usize..][..size as usize]);
                 }
                 _ => panic!("damage in a run that conforms"),
             }
         }
     }
-    heard
+    sum.outcome()
 }
 
-/// Compares all that both say of each frame, and the record and store behind it;
-/// answers the first frame in which they differ.
-fn same_events(octets: &[u8]) -> Result<(), usize> {
-    let mut reference = ([0; calls::EXTRACTOR], [0; CHANNEL.limit]);
-    let mut library = reference;
-    for (place, frame) in octets.chunks_exact(CHANNEL.frame_length()).enumerate() {
-        let first = said(&Reference, &mut reference, frame);
-        let second = said(&Library, &mut library, frame);
-        if first != second || reference != library {
-            return Err(place);
+#[inline(never)]
+fn extractor_by_reference(input: &Input, _: &mut [u8]) -> Outcome {
+    let mut sum = Sum::default();
+    let mut store = vec![0; input.settings.limit];
+    let mut record = extractor::Record::Fresh;
+    for frame in input.frames() {
+        let entered = extractor::enter(&input.settings, &mut record, &store, frame);
+        sum.lost += u64::from(entered.expect("a frame of the channel").lost);
+        loop {
+            match extractor::step(&input.settings, &mut record, &mut store, frame) {
+                Ok(Step::Packet { part, .. }) => sum.packet(extractor::show(part, &store, frame)),
+                Ok(Step::Spent) => break,
+                other => panic!("{other:?} in a run that conforms"),
+            }
+        }
+    }
+    sum.outcome()
+}
+
+#[inline(never)]
+fn extractor_by_plain(input: &Input, _: &mut [u8]) -> Outcome {
+    let mut sum = Sum::default();
+    let mut extractor = plain::Extractor::new(input.settings).expect("settings in range");
+    for frame in input.frames() {
+        extractor.feed(frame, |event| match event {
+            Event::Entered(entered) => sum.lost += u64::from(entered.lost),
+            Event::Packet { octets, .. } => sum.packet(octets),
+            other => panic!("{other:?} in a run that conforms"),
+        });
+    }
+    sum.outcome()
+}
+
+#[inline(never)]
+fn multiplexer_by_library(input: &Input, output: &mut [u8]) -> Outcome {
+    let settings = generate::settings_numbers(&input.settings);
+    let mut record = [0; calls::MUX];
+    assert_eq!(Library.mux_begin(&mut record), 0, "room for a record");
+    let mut put = [0; calls::PUT];
+    let mut packets = input.packets.iter();
+    let mut packet = packets.next();
+    for frame in output.chunks_exact_mut(input.settings.frame_length()) {
+        while let Some(octets) = packet {
+            let refusal = Library.mux_put(&settings, &mut record, octets, frame, &mut put);
+            assert_eq!(refusal, 0, "a well-formed packet at its moment");
+            let [full, taken] = put;
+            if taken == 1 {
+                packet = packets.next();
+            }
+            if full == 1 {
+                break;
+            }
+        }
+    }
+    record
+}
+
+#[inline(never)]
+fn multiplexer_by_reference(input: &Input, output: &mut [u8]) -> Outcome {
+    let mut record = multiplexer::Record::START;
+    let mut packets = input.packets.iter();
+    let mut packet = packets.next();
+    for frame in output.chunks_exact_mut(input.settings.frame_length()) {
+        while let Some(octets) = packet {
+            let put = multiplexer::put(&input.settings, &mut record, octets, frame)
+                .expect("a well-formed packet at its moment");
+            if put.taken {
+                packet = packets.next();
+            }
+            if put.full {
+                break;
+            }
+        }
+    }
+    let multiplexer::Record { count, filled, first, taken } = record;
+    [count.into(), filled as u64, first.into(), taken as u64]
+}
+
+#[inline(never)]
+fn judge_by_library(input: &Input, _: &mut [u8]) -> Outcome {
+    let settings = generate::settings_numbers(&input.settings);
+    let mut store = vec![0; input.settings.limit];
+    let mut record = [0; calls::JUDGE];
+    for frame in input.frames() {
+        let refusal = Library.judge_frame(&settings, &mut record, &mut store, frame);
+        assert_eq!(refusal, 0, "fewer frames than the judge's last");
+    }
+    let mut verdict = [0; calls::VERDICT];
+    assert_eq!(Library.judge_close(&settings, &record, &store, &mut verdict), 0, "a record");
+    let [what, at] = verdict;
+    [what, at, 0, 0]
+}
+
+#[inline(never)]
+fn judge_by_reference(input: &Input, _: &mut [u8]) -> Outcome {
+    let mut store = vec![0; input.settings.limit];
+    let mut record = judge::Record::Open;
+    for frame in input.frames() {
+        let taken = judge::frame(&input.settings, &mut record, &mut store, frame);
+        taken.expect("fewer frames than the judge's last");
+    }
+    match judge::close(&input.settings, &record, &store).expect("a record") {
+        judge::Verdict::Pass => [1, 0, 0, 0],
+        judge::Verdict::Fault(at) => [2, at.into(), 0, 0],
+    }
+}
+
+/// Every event of the extractors, every record of the judges, every frame of the
+/// multiplexers, and what comes of each work.
+fn compare(input: &Input) -> Result<(), Box<dyn Error>> {
+    let mut extractors: [Box<dyn Hearing>; 3] = [
+        Box::new(ByCalls::new(&Library, CHANNEL)),
+        Box::new(ByCalls::new(&Reference, CHANNEL)),
+        Box::new(plain::Extractor::new(CHANNEL).expect("settings in range")),
+    ];
+    let settings = generate::settings_numbers(&CHANNEL);
+    let mut judges = [([0; calls::JUDGE], [0; CHANNEL.limit]); 2];
+    for (place, frame) in input.frames().enumerate() {
+        let [library, reference, plain] = &mut extractors;
+        let heard = library.hear(frame);
+        if heard != reference.hear(frame) || heard != plain.hear(frame) {
+            return Err(format!("the extractors differ in frame {place}").into());
+        }
+        let calls: [&dyn Calls; 2] = [&Library, &Reference];
+        for (calls, (record, store)) in calls.iter().zip(&mut judges) {
+            calls.judge_frame(&settings, record, store, frame);
+        }
+        if judges[0] != judges[1] {
+            return Err(format!("the judges differ in frame {place}").into());
+        }
+    }
+    let mut expected = [0; 4];
+    for (work, name, side) in SIDES {
+        let mut output = vec![0; input.frames.len()];
+        let outcome = side(input, &mut output);
+        if name == "library" {
+            expected = outcome;
+        }
+        let written = work != "multiplexer" || output == input.frames;
+        if outcome != expected || !written {
+            return Err(format!("{work}: {name} and the library differ").into());
         }
     }
     Ok(())
 }
 
-/// A record and a store.
-type State = ([u64; calls::EXTRACTOR], [u8; CHANNEL.limit]);
+fn write_run(frames: usize) -> Result<(), Box<dyn Error>> {
+    let mut out = io::BufWriter::new(io::stdout().lock());
+    out.write_all(&setup_record(&CHANNEL))?;
+    for frame in Input::new(frames).frames() {
+        out.write_all(&[runfile::FRAME])?;
+        out.write_all(frame)?;
+    }
+    out.write_all(&[runfile::END])?;
+    Ok(out.flush()?)
+}
 
-/// All the numbers that entering a frame and stepping it answer.
-fn said(calls: &dyn Calls, (record, store): &mut State, frame: &[u8]) -> Vec<u64> {
-    let settings = generate::settings_numbers(&CHANNEL);
-    let mut entered = [0; calls::ENTERED];
-    let mut said = vec![calls.extractor_enter(&settings, record, store, frame, &mut entered)];
-    said.extend(entered);
-    for _ in 0..=CHANNEL.zone {
-        let mut step = [0; calls::STEP];
-        said.push(calls.extractor_step(&settings, record, store, frame, &mut step));
-        said.extend(step);
-        if step[0] == 4 {
-            break;
+fn read_run() -> Result<(), Box<dyn Error>> {
+    let mut run = Vec::new();
+    io::stdin().read_to_end(&mut run)?;
+    Ok(io::stdout().write_all(aosread(&run).as_bytes())?)
+}
+
+/// The best round of each side. In a round every side has its turn.
+fn times(input: &Input, rounds: usize, run: &str, program: &str) -> Result<(), Box<dyn Error>> {
+    let own = env::current_exe()?;
+    let programs = [
+        ("program", "library", vec![program.as_ref()]),
+        ("program", "reference", vec![own.as_os_str(), "read".as_ref()]),
+    ];
+    let mut output = vec![0; input.frames.len()];
+    let mut best = [Duration::MAX; SIDES.len() + 2];
+    for _ in 0..rounds {
+        let (by_call, by_program) = best.split_at_mut(SIDES.len());
+        for ((_, _, side), best) in SIDES.iter().zip(by_call) {
+            let start = Instant::now();
+            side(input, &mut output);
+            *best = start.elapsed().min(*best);
+        }
+        for ((_, _, words), best) in programs.iter().zip(by_program) {
+            let mut command = Command::new(words[0]);
+            command.args(&words[1..]).stdin(File::open(run)?).stdout(Stdio::null());
+            let start = Instant::now();
+            command.status()?;
+            *best = start.elapsed().min(*best);
         }
     }
-    said
+    let names = SIDES.iter().map(|side| (side.0, side.1));
+    let names = names.chain(programs.iter().map(|program| (program.0, program.1)));
+    let frames = input.frames().count() as u128;
+    for ((work, side), best) in names.zip(best) {
+        println!("{work} {side} {}", best.as_nanos() / frames);
+    }
+    Ok(())
 }
