@@ -1,10 +1,9 @@
 // A plugin of qemu-user that counts the instructions of the program it runs, and writes their number to a file at its end:
 //
-//     cc -shared -fPIC -DVERSION=1 -o instructions.so instructions.c
+//     cc -shared -fPIC -o instructions.so instructions.c
 //     qemu-x86_64 -plugin ./instructions.so,out=FILE PROGRAM
 //
-// VERSION is that of the emulator's plugin interface, which refuses those that it does not know. The few functions that are used here
-// have been the same in all of them, so they are declared here and the emulator's own header is not needed.
+// The few functions of the emulator that it needs are declared here, as its header is not in the emulator's package.
 #include <inttypes.h>
 #include <stddef.h>
 #include <stdio.h>
@@ -19,7 +18,8 @@ void qemu_plugin_register_vcpu_tb_trans_cb(plugin_id, void (*translated)(plugin_
 void qemu_plugin_register_vcpu_tb_exec_cb(struct block *, void (*executed)(unsigned cpu, void *), int registers, void *);
 void qemu_plugin_register_atexit_cb(plugin_id, void (*ended)(plugin_id, void *), void *);
 
-int qemu_plugin_version = VERSION;
+// Of the interface; an emulator says if it does not take this one.
+int qemu_plugin_version = 1;
 
 static const char *out;
 static uint64_t total;
