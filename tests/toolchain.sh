@@ -1,4 +1,4 @@
-# Sourced by ./test, ./bench and tests/outside: the tools that build and run x86-64 programs on this machine.
+# Sourced by ./test, ./bench, tests/outside and examples/c: the tools that build and run x86-64 programs on this machine.
 #
 # The library is compiled for x86-64 alone, so whatever links it is an x86-64 program too. This file sets
 #
