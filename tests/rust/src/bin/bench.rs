@@ -2,12 +2,14 @@
 //!
 //! The script `bench` at the top of the project calls it:
 //!
-//!     bench run FRAMES                           writes a run file
-//!     bench read                                 the reference's program: a run file in, its report out
-//!     bench compare FRAMES                       compares all that the two sides of each work say
-//!     bench work WORK SIDE FRAMES ROUNDS         does the work so often, for a counter of instructions
-//!     bench times FRAMES ROUNDS RUN PROGRAM      a line `WORK SIDE NANOSECONDS` for each, of a frame in
-//!                                                the best round; RUN is a run file of as many frames
+//! ```text
+//! bench run FRAMES                        writes a run file
+//! bench read                              the reference's program: a run file in, its report out
+//! bench compare FRAMES                    compares all that the sides of each work say
+//! bench work WORK SIDE FRAMES ROUNDS      does the work so often, for a counter of instructions
+//! bench times FRAMES ROUNDS RUN PROGRAM   a line `WORK SIDE NANOSECONDS` for each, of a frame in the
+//!                                         best round; RUN is a run file of as many frames
+//! ```
 //!
 //! The input is made first, and all sides are lent the same buffers.
 
