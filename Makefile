@@ -14,7 +14,9 @@ TOOLS = $(patsubst %/docs/,%,$(dir $(shell rt doc)))/on/$(shell uname -m)/toolch
 all: target/lib/libitzahuemo.a target/lib/libitzahuemo.so
 
 target/staticlib/libexports.a: $(SOURCES)
-	rt staticlib exports
+	@mkdir -p target
+	@echo 'proving and compiling the library, which takes minutes; the log is target/library.log'
+	@rt staticlib exports >target/library.log 2>&1 || { cat target/library.log; exit 1; }
 
 target/lib/libitzahuemo.a: target/staticlib/libexports.a
 	mkdir -p $(@D)

@@ -24,6 +24,10 @@ class Front(enum.Enum):
     MORE = "more octets are needed"
     DAMAGED = "no packet begins like this"
 
+    def __bool__(self) -> bool:
+        """No header is found: `if read_header(..)` is true for a header alone."""
+        return False
+
 
 @dataclass(frozen=True)
 class Header:

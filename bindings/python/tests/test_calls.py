@@ -71,6 +71,7 @@ class Calls(unittest.TestCase):
         self.assertEqual(read_header(LIMIT, b"\xe0"), Header(None, 0, True, 1, 1))
         self.assertEqual(read_header(LIMIT, memoryview(SPACE)[:5]), Front.MORE)
         self.assertEqual(read_header(LIMIT, b""), Front.MORE)
+        self.assertFalse(read_header(LIMIT, b""))
         self.assertEqual(read_header(LIMIT, bytearray(b"\x33")), Front.DAMAGED)
         self.refused(Refusal.SETTING, read_header, 6, SPACE)
         self.assertTrue(well_formed(LIMIT, SPACE))
