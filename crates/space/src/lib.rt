@@ -22,6 +22,18 @@ pub enum SpaceRead {
     Read { header: SpaceHeader },
 }
 
+// A field is out of range.
+const REFUSED_SETTING: u8 = 1;
+
+// The lent output is too short.
+const REFUSED_ROOM: u8 = 2;
+
+// The octets begin no space packet.
+const REFUSED_PACKET: u8 = 8;
+
+// The header's octets.
+const HEADER: usize = 6;
+
 // The fields' places in the header's 48 bits.
 const VERSION: Place = Place {
     below: 45,
@@ -80,8 +92,10 @@ pub fn read_space(octets: &[u8]) -> SpaceRead
 {
     let word = octets::number6(octets, 0);
     let version = narrow(word, VERSION);
-    if (octets.len() < 6) | (version != 0) {
-        return SpaceRead::Refused { refusal: 8 };
+    if (octets.len() < HEADER) | (version != 0) {
+        return SpaceRead::Refused {
+            refusal: REFUSED_PACKET,
+        };
     }
     let header = SpaceHeader {
         version,
@@ -121,11 +135,12 @@ fn word_of(h: SpaceHeader) -> u64
 pub fn write_space(h: SpaceHeader, out: &mut [u8]) -> u8
     ensures { λ r. ⌜ space-writes r (now (out .exit)) ≡ space-writing h (now (out .entry)) ⌝ }
 {
-    let room = octets::refused(out.len() < 6, 2, 0);
-    let refusal = octets::refused(!in_range(h), 1, room);
-    if refusal != 0 {
-        return refusal;
+    if !in_range(h) {
+        return REFUSED_SETTING;
     }
-    octets::put(out, 0, 6, word_of(h));
+    if out.len() < HEADER {
+        return REFUSED_ROOM;
+    }
+    octets::put(out, 0, HEADER, word_of(h));
     0
 }
