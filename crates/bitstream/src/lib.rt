@@ -3,7 +3,9 @@ ghost use mathlib.Core.Path.{_≡_};
 ghost use Prim.Native.Nat.{_≤_};
 ghost use Rattle.octets.specs.Basics.{first, over};
 ghost use Rattle.frames.specs.Link.{zone-at, next-count};
-ghost use Rattle.bitstream.specs.Bitstream.{octets-for, pointer-for, valid-bits, mixed, zone-with, begun, writer-reachable, write-rows, wrote, written, reader-reachable, loss-flag, reading, leading-octets, Fits};
+ghost use Rattle.bitstream.specs.Bitstream.{octets-for, pointer-for, valid-bits, mixed, zone-with, begun, writer-reachable, write-rows, wrote, written, reader-reachable, loss-flag, nothing-read, reading, leading-octets, Fits};
+use frames::REFUSED_ROOM;
+use frames::REFUSED_SETTING;
 use frames::WHEEL;
 use frames::ZONE_AT;
 use frames::bits::ALL_VALID;
@@ -39,6 +41,9 @@ pub struct Reading {
     pub lost: bool,
     pub reader: Reader,
 }
+
+// No calls lead to the record.
+const REFUSED_RECORD: u8 = 10;
 
 // A writer that has written nothing.
 pub fn begin() -> Writer
@@ -111,14 +116,17 @@ fn writer_reachable(s: BitSettings, w: Writer) -> bool
 fn write_refusal(s: BitSettings, w: Writer, n: usize, lent: usize, room: usize) -> u8
     ensures { λ r. ⌜ r ≡ first (write-rows s w n lent room) ⌝ }
 {
-    let octets = octets_for(n);
-    let short = frames::bits::is_short(s, room) | (lent < octets);
-    let reached = octets::refused(!writer_reachable(s, w), 10, 0);
-    octets::refused(
-        !(frames::bits::in_range(s) & (octets <= s.width)),
-        1,
-        octets::refused(short, 2, reached),
-    )
+    let needed = octets_for(n);
+    if !(frames::bits::in_range(s) & (needed <= s.width)) {
+        return REFUSED_SETTING;
+    }
+    if frames::bits::is_short(s, room) | (lent < needed) {
+        return REFUSED_ROOM;
+    }
+    if !writer_reachable(s, w) {
+        return REFUSED_RECORD;
+    }
+    0
 }
 
 // Writes the next frame, with n bits, the first in the top of the first octet.
@@ -172,22 +180,33 @@ fn valid_bits(s: BitSettings, pointer: u16) -> usize
     pointer as usize + 1
 }
 
+// A refusal alone, with the reader as it was.
+fn refused(refusal: u8, x: Reader) -> Reading
+    ensures { λ r. ⌜ r ≡ nothing-read refusal x ⌝ }
+{
+    Reading {
+        refusal,
+        count: 0,
+        replay: 0,
+        bits: 0,
+        lost: false,
+        reader: x,
+    }
+}
+
 // Reads a frame: its count, its replay flag, how many bits it has, and the loss flag.
 pub fn read(s: BitSettings, x: Reader, frame: &[u8]) -> Reading
     ensures { λ r. ⌜ r ≡ reading s x (now (frame .entry)) ⌝ }
 {
+    if !frames::bits::in_range(s) {
+        return refused(REFUSED_SETTING, x);
+    }
+    if !reader_reachable(s, x) {
+        return refused(REFUSED_RECORD, x);
+    }
     let head = frames::bits::read_head(s, frame);
-    let reached = octets::refused(!reader_reachable(s, x), 10, head.refusal);
-    let refusal = octets::refused(!frames::bits::in_range(s), 1, reached);
-    if refusal != 0 {
-        return Reading {
-            refusal,
-            count: 0,
-            replay: 0,
-            bits: 0,
-            lost: false,
-            reader: x,
-        };
+    if head.refusal != 0 {
+        return refused(head.refusal, x);
     }
     Reading {
         refusal: 0,
@@ -203,9 +222,9 @@ pub fn read(s: BitSettings, x: Reader, frame: &[u8]) -> Reading
 pub fn leading_octets(s: BitSettings, n: usize, frame: &[u8]) -> &[u8]
     ensures { λ r. ⌜ now r ≡ leading-octets s n (now (frame .entry)) ⌝ }
 {
-    let octets = octets_for(n);
-    if frames::bits::has_length(s, frame.len()) & (octets <= s.width) {
-        let end = ZONE_AT + octets;
+    let needed = octets_for(n);
+    if frames::bits::has_length(s, frame.len()) & (needed <= s.width) {
+        let end = ZONE_AT + needed;
         return &frame[ZONE_AT..end];
     }
     &frame[0..0]

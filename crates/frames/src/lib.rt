@@ -43,6 +43,12 @@ pub const ZONE_AT: usize = 8;
 // So many counts are on the wheel.
 pub const WHEEL: u32 = 16777216;
 
+// A setting or an argument is out of range.
+pub const REFUSED_SETTING: u8 = 1;
+
+// A lent buffer is too short.
+pub const REFUSED_ROOM: u8 = 2;
+
 // A judged run has so many frames at most.
 pub const MOST_FRAMES: u32 = 16777216;
 
