@@ -1,14 +1,14 @@
 -- What the rows of a call ask, where none of them holds.
 -- Assumes nothing.
-use mathlib.Core.Path.{_≡_, refl}
-use mathlib.Core.List.{List, _++_}
+use mathlib.Core.Path.{_≡_, refl, sym, _∙_}
+use mathlib.Core.List.{List, [], _∷_, _++_}
 use mathlib.Core.Bool.{Bool, true, false}
 use Prim.Native.Nat.{ℕ, _≤_}
 use native.Mathlib.Omega.{arith}
 use lib.ListN.{length}
 use lib.Dec.{leb, ltb}
 use borrow.Author.Tests.{le-leb, ltb-false, leb-false, not-false}
-use Rattle.octets.specs.Basics.{and, Row, first}
+use Rattle.octets.specs.Basics.{and, Row, row, first}
 use Rattle.octets.proofs.Choices.{none-holds, or-false}
 use Rattle.packets.specs.Packet.{limit-in-range}
 use Rattle.frames.specs.Frame.{in-range, frame-length}
@@ -67,18 +67,25 @@ idle-passed s m room e =
     let a = lent-passed s m room _ e in
     (accepted s m room (a .0), omega (arith, ltb-false 0 (m .filled) (or-false (ltb 0 (m .taken)) _ (none-holds 8 _ _ (a .1) .0) .1)))
 
-limit-settled : (s : Settings) → in-range s ≡ true → limit-in-range (s .limit) ≡ true
-unfolding limit-in-range
-limit-settled s e =
-    let w : Settled s = settled s e in
-    rw (le-leb 7 (s .limit) (w .limit-least), le-leb (s .limit) 65542 (w .limit-most)) refl
+-- a row of every call that holds refuses, whatever rows stand below
+above : (a b c : Bool) (rs : List Row) → (first (row 1 a ∷ row 2 b ∷ row 10 c ∷ []) ≡ 0 → ⊥)
+    → first (row 1 a ∷ row 2 b ∷ row 10 c ∷ []) ≡ first (row 1 a ∷ row 2 b ∷ row 10 c ∷ rs)
+unfolding first
+above true b c rs h = refl
+above false true c rs h = refl
+above false false true rs h = refl
+above false false false rs h = absurd (h refl)
+
+module _ (s : Settings) (m : Mux) (room : ℕ) {r : ℕ} (e : r ≡ first (lent-rows s m room)) where
+  pub lent-refused : (rs : List Row) → (r ≡ 0 → ⊥) → r ≡ first (lent-rows s m room ++ rs)
+  lent-refused rs h = e ∙ above _ _ _ rs (λ z. h (e ∙ z))
+
+  pub lent-none : r ≡ 0 → Lent s m room
+  lent-none h = lent-passed s m room [] (sym e ∙ h) .0
 
 -- a row below that of the settings need not test the limit again
-pub limit-known : (s : Settings) (m : Mux) (room : ℕ) (t : Bool) (rows : Bool → List Row)
-    → first (lent-rows s m room ++ rows (and (limit-in-range (s .limit)) t)) ≡ first (lent-rows s m room ++ rows t)
-unfolding first
-limit-known s m room t rows = go (in-range s) refl
-  where
-    go : (b : Bool) → in-range s ≡ b → first (lent-rows s m room ++ rows (and (limit-in-range (s .limit)) t)) ≡ first (lent-rows s m room ++ rows t)
-    go true e = rw (limit-settled s e) refl
-    go false e = rw e refl
+pub limit-known : (s : Settings) → in-range s ≡ true → limit-in-range (s .limit) ≡ true
+unfolding limit-in-range
+limit-known s e =
+    let w : Settled s = settled s e in
+    rw (le-leb 7 (s .limit) (w .limit-least), le-leb (s .limit) 65542 (w .limit-most)) refl

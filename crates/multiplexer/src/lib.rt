@@ -1,16 +1,17 @@
 // The multiplexer: packets in, frames out, call by call.
 ghost use mathlib.Core.Path.{_≡_};
-ghost use mathlib.Core.List.{List, _++_};
 ghost use Prim.Native.Nat.{_+_, _-_, _≤_};
 ghost use lib.ListN.{length};
 ghost use lib.Dec.{eqb};
-ghost use Rattle.octets.specs.Basics.{pick, Row, first};
+ghost use Rattle.octets.specs.Basics.{pick, first};
 ghost use Rattle.packets.specs.Idle.{idle-packet};
 ghost use Rattle.multiplexer.specs.Multiplex.{begun, mux-reachable, lent-rows, put-rows, flush-rows, idle-rows, start-now, put, idle-frame};
 ghost use Rattle.multiplexer.specs.Calls.{to-put, to-flush, to-idle, doing, answers, answer};
 ghost use Rattle.multiplexer.specs.Laying.{Fills, Counted, PacketLaid};
 use frames::IDLE_ZONE;
 use frames::NO_START;
+use frames::REFUSED_ROOM;
+use frames::REFUSED_SETTING;
 use frames::Settings;
 use frames::WHEEL;
 use frames::ZONE_AT;
@@ -35,6 +36,15 @@ pub enum Reply {
     Done { full: bool, taken: bool, mux: Mux },
 }
 
+// The packet is not well formed.
+const REFUSED_PACKET: u8 = 8;
+
+// It is the wrong moment for the call.
+const REFUSED_MOMENT: u8 = 9;
+
+// No calls lead to the record.
+const REFUSED_RECORD: u8 = 10;
+
 // The first record.
 pub fn begin() -> Mux
     ensures { λ r. ⌜ r ≡ begun ⌝ }
@@ -58,36 +68,63 @@ fn mux_reachable(s: Settings, m: Mux) -> bool
     counted & ((m.filled == 0) & ((m.first == NO_START) & (m.taken < s.limit)))
 }
 
-// The rows that every call has, above those of its own.
-fn lent_refusal(s: Settings, m: Mux, room: usize, below: u8) -> u8
-    ensures { λ r. ⌜ ((rows : List Row) → below ≡ first rows → r ≡ first (lent-rows s m room ++ rows)) ⌝ }
+// What every call is refused for first; 0 where it is not.
+fn lent_refusal(s: Settings, m: Mux, room: usize) -> u8
+    ensures { λ r. ⌜ r ≡ first (lent-rows s m room) ⌝ }
 {
-    let reached = octets::refused(!mux_reachable(s, m), 10, below);
-    let long = octets::refused(frames::is_short(s, room), 2, reached);
-    octets::refused(!frames::in_range(s), 1, long)
+    if !frames::in_range(s) {
+        return REFUSED_SETTING;
+    }
+    if frames::is_short(s, room) {
+        return REFUSED_ROOM;
+    }
+    if !mux_reachable(s, m) {
+        return REFUSED_RECORD;
+    }
+    0
 }
 
 // What a call is refused for; 0 where it is not.
 fn put_refusal(s: Settings, m: Mux, p: &[u8], room: usize) -> u8
     ensures { λ r. ⌜ r ≡ first (put-rows s m (now (p .entry)) room) ⌝ }
 {
-    let formed = octets::refused(!packets::well_formed(s.limit, p), 8, 0);
-    let moment = octets::refused((0 < m.taken) & (p.len() <= m.taken), 9, formed);
-    lent_refusal(s, m, room, moment)
+    let lent = lent_refusal(s, m, room);
+    if lent != 0 {
+        return lent;
+    }
+    if (0 < m.taken) & (p.len() <= m.taken) {
+        return REFUSED_MOMENT;
+    }
+    if !packets::well_formed(s.limit, p) {
+        return REFUSED_PACKET;
+    }
+    0
 }
 
 fn flush_refusal(s: Settings, m: Mux, room: usize) -> u8
     ensures { λ r. ⌜ r ≡ first (flush-rows s m room) ⌝ }
 {
-    let moment = octets::refused(0 < m.taken, 9, 0);
-    lent_refusal(s, m, room, moment)
+    let lent = lent_refusal(s, m, room);
+    if lent != 0 {
+        return lent;
+    }
+    if 0 < m.taken {
+        return REFUSED_MOMENT;
+    }
+    0
 }
 
 fn idle_refusal(s: Settings, m: Mux, room: usize) -> u8
     ensures { λ r. ⌜ r ≡ first (idle-rows s m room) ⌝ }
 {
-    let moment = octets::refused((0 < m.taken) | (0 < m.filled), 9, 0);
-    lent_refusal(s, m, room, moment)
+    let lent = lent_refusal(s, m, room);
+    if lent != 0 {
+        return lent;
+    }
+    if (0 < m.taken) | (0 < m.filled) {
+        return REFUSED_MOMENT;
+    }
+    0
 }
 
 // Where the zone's first packet starts, once more octets are laid: a packet that is continued starts nothing.
