@@ -1,6 +1,6 @@
 -- What the rules compute with, crate by crate: to unfold one of these is to unfold all that its line names.
 -- Assumes nothing.
-use Rattle.octets.specs.Basics.{number-from, number, octets, field, join, placed, part, over, first, number-at, laid}
+use Rattle.octets.specs.Basics.{number-from, number, octets, field, join, placed, part, over, first, number-at, laid, laid-part}
 use Rattle.packets.specs.Packet.{limit-in-range, sized, counted, space, header-length, encapsulation, look, states, well-formed, is-idle, key-of, size-of}
 use Rattle.packets.specs.Header.{told, reading, version-of, answer}
 use Rattle.packets.specs.Front.{first-octet, second-octet, front}
@@ -33,7 +33,7 @@ use Rattle.exports.specs.Judging.{judge-numbers, judge-with, judge-leaves, clos
 use Rattle.exports.specs.Bits.{bits-short, bit-settings-of, writer-of, write-leaves, reader-numbers, reader-with, read-numbers, read-leaves}
 
 unfoldable pub packets : Unit {0}
-unfolding number-from number octets field join placed part over first number-at laid limit-in-range sized counted space header-length encapsulation look states well-formed is-idle key-of size-of told reading version-of answer first-octet second-octet front idle-header idle-packet idle-packet-rows lol-for wrapped-total wrapped wrap-in-range wrap-rows wrapping wraps extension-of reserved-of unwrap-rows unwrapping unwraps run-of unit-part space-fields space-word space-in-range space-read-rows space-reading space-reads space-rows space-writing
+unfolding number-from number octets field join placed part over first number-at laid laid-part limit-in-range sized counted space header-length encapsulation look states well-formed is-idle key-of size-of told reading version-of answer first-octet second-octet front idle-header idle-packet idle-packet-rows lol-for wrapped-total wrapped wrap-in-range wrap-rows wrapping wraps extension-of reserved-of unwrap-rows unwrapping unwraps run-of unit-part space-fields space-word space-in-range space-read-rows space-reading space-reads space-rows space-writing
 packets = tt
 
 unfoldable pub frames : Unit {0}

@@ -122,6 +122,7 @@ demand-3 s store fs ok room few =
     record {
       frames-accepted = run-ran s store fs ok room few .unrefused;
       close-accepted = rw answers (closed-accepted (verdict s fs));
+      verdict-is = answers;
       passes-exactly = (
         (λ e. d .sound (closed-pass (verdict s fs) (rw answers at e))),
         (λ c. rw (answers, d .complete (c .0) (c .1)) pass-passes),

@@ -3,6 +3,7 @@
 use mathlib.Core.Path.{refl}
 use Rattle.demands.specs.Numbers.{Numbers}
 use Rattle.demands.specs.Numbers.Ranges.{Edges}
+use Rattle.demands.specs.Numbers.Octets as octets
 use Rattle.demands.specs.Numbers.FrameFields as frames
 use Rattle.demands.specs.Numbers.PacketFields.{SpacePackets, EncapsulationPackets, IdlePackets}
 use Rattle.demands.specs.Numbers.SpaceFields as space
@@ -42,6 +43,10 @@ ranges = record {
   bit-pointers = refl;
 }
 
+octets-laid : octets.Octets
+unfolding computing.packets
+octets-laid = record { read = refl; written = refl; fields = refl; room = refl; over = refl; part = refl; part-over = refl }
+
 frame-read : frames.Read
 unfolding computing.frames
 frame-read = record {
@@ -70,7 +75,7 @@ frame-written = record { each = refl; each-bits = refl; highest = refl; refusals
 
 wheel : frames.Wheel
 unfolding computing.frames
-wheel = record { missing-before = refl }
+wheel = record { missing-before = refl; off-the-wheel = refl }
 
 space-packets : SpacePackets
 unfolding computing.packets
@@ -189,6 +194,7 @@ stepped = record {
   spent = refl;
   damaged = refl;
   lengths = refl;
+  damaged-held = refl;
   left = refl;
   appended = refl;
   begun = refl;
@@ -240,6 +246,7 @@ bits-carried = record {
   reserved = refl;
   replayed = refl;
   follows = refl;
+  fill-alone = refl;
   leading = refl;
   other-length = refl;
 }
@@ -257,6 +264,8 @@ run-files = record {
   last-body = refl;
   last-end = refl;
   cut = refl;
+  stays = refl;
+  no-bodies = refl;
   whole = refl;
   written = refl;
   bad-records = refl;
@@ -287,6 +296,7 @@ pub numbers : Numbers
 numbers = record {
   ranges = ranges;
   layouts = record {
+    octets = octets-laid;
     frame-read = frame-read;
     frame-written = frame-written;
     wheel = wheel;

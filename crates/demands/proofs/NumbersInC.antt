@@ -65,5 +65,13 @@ bits = record {
   read = refl;
 }
 
+short : arrays.Short
+unfolding computing.arrays
+short = record { packets = refl; space = refl; mux = refl; extractor = refl; judge = refl; bits = refl }
+
+refused : arrays.Refused
+unfolding computing.arrays
+refused = record { kinds = refl; judge = refl; count = refl; reader = refl; fill = refl; limit = refl; first-read = refl }
+
 pub in-c : arrays.InC
-in-c = record { stated = stated; packets = packets; multiplexer = multiplexer; extractor = extractor; judge = judge; bits = bits }
+in-c = record { short = short; refused = refused; stated = stated; packets = packets; multiplexer = multiplexer; extractor = extractor; judge = judge; bits = bits }

@@ -7,4 +7,5 @@ pub mod Extractor
 pub mod Judge
 pub mod Bitstream
 pub mod RunFile
+pub mod Refused
 pub mod Exports

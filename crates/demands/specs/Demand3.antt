@@ -13,7 +13,8 @@ use Rattle.extractor.specs.Answers.{EnterNumbers, EnterSaid, enter-answer}
 use Rattle.extractor.specs.Calls.{Finds, steps, SpentLast, listen}
 use Rattle.extractor.specs.declared.Extractor.{Extractor}
 use Rattle.extractor.specs.declared.Extractor.the-variants.{Fresh}
-use Rattle.judge.specs.Calls.{judge-calls, judge-run}
+use Rattle.judge.specs.Judge.{verdict}
+use Rattle.judge.specs.Calls.{close-says, closes-with, judge-calls, judge-run}
 use Rattle.judge.specs.declared.Judge.the-variants.{Open}
 use Rattle.demands.specs.Carries.{Carries}
 
@@ -39,11 +40,13 @@ pub record HandsOver (s : Settings) (store : List ℕ) (fs ps : List (List ℕ))
   pub smooth : SmoothRun s Fresh store fs
   pub exactly : events-in (listen s Fresh store fs .told) ≡ marked ps
 
--- The judge, lent this store, refuses neither a frame nor the close, and passes the run exactly when some list is carried. That
+-- The judge, lent this store, refuses neither a frame nor the close, comes to the verdict of the written rules with the index of the first
+-- fault, and passes the run exactly when some list is carried. That
 -- list is then the only one, and an extractor with any store that is long enough hands it over.
 pub record Judges (s : Settings) (store : List ℕ) (fs : List (List ℕ)) : Type 0 where
   pub frames-accepted : All (λ n. n ≡ 0) (judge-calls s store Open fs .refusals)
   pub close-accepted : judge-run s store fs .refusal ≡ 0
+  pub verdict-is : judge-run s store fs ≡ close-says (closes-with (verdict s fs))
   pub passes-exactly : (judge-run s store fs .passes ≡ true) ↔ ((ps : List (List ℕ)) × Carries s fs ps)
   pub only : (ps qs : List (List ℕ)) → Carries s fs ps → Carries s fs qs → ps ≡ qs
   pub handed-over : (ps : List (List ℕ)) → Carries s fs ps → (lent : List ℕ) → s .limit ≤ length lent → HandsOver s lent fs ps

@@ -1,6 +1,7 @@
 -- Document 01's numbers and layouts, once, by examples that compute: a rule that code and definitions have wrong together fails here.
 use Rattle.demands.specs.Numbers.Ranges.{Edges}
 use Rattle.demands.specs.Numbers.Only.{OnlyThese}
+use Rattle.demands.specs.Numbers.Octets as octets
 use Rattle.demands.specs.Numbers.FrameFields as frames
 use Rattle.demands.specs.Numbers.PacketFields.{SpacePackets, EncapsulationPackets, IdlePackets}
 use Rattle.demands.specs.Numbers.SpaceFields as space
@@ -14,6 +15,7 @@ use Rattle.demands.specs.Numbers.RunFiles as runs
 use Rattle.demands.specs.Numbers.Answers.{Cases}
 use Rattle.demands.specs.Numbers.InC as arrays
 pub mod Samples
+pub mod Octets
 pub mod Ranges
 pub mod Only
 pub mod FrameFields
@@ -31,6 +33,7 @@ pub mod InC
 
 -- layouts
 pub record Layouts : Type 0 where
+  pub octets : octets.Octets
   pub frame-read : frames.Read
   pub frame-written : frames.Written
   pub wheel : frames.Wheel

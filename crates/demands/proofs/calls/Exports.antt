@@ -7,6 +7,7 @@ use Rattle.exports.specs.Left.{Left, left}
 use Rattle.exports.proofs.Theorems.{stated-again, parts-named}
 use Rattle.exports.proofs.Zeros.{zero-is-refused}
 use Rattle.demands.specs.Promises.{Is}
+use Rattle.demands.proofs.calls.Refused.{refused-keep}
 use Rattle.demands.specs.calls.Exports.{leaving, Each, NoNumbers, NoOctets, NoAnswer, NumbersAlone, OctetsAlone, AnswerAlone, OfExports}
 
 -- an outcome without the arrays that the call has not is what is seen of it
@@ -78,5 +79,6 @@ of-exports = record {
   bits-read = λ κs settings array frame answer. no-octets;
   stated-again = stated-again;
   parts-named = parts-named;
+  refused-keep = refused-keep;
   zero-is-refused = zero-is-refused;
 }

@@ -78,6 +78,9 @@ pub record Frames : Type 0 where
   pub replayed : reading two-octets Fresh (0x50 ∷ 0x83 ∷ 1 ∷ 2 ∷ 3 ∷ 0x80 ∷ 0 ∷ 0 ∷ lent 2) ≡ says 0x010203 1 1 false
   pub follows : map (λ last. reading two-octets (Last last) (frame 0 0x00 0 (lent 2))) (16777215 ∷ 0 ∷ 16777214 ∷ [])
       ≡ says 0 0 1 false ∷ says 0 0 1 true ∷ says 0 0 1 true ∷ []
+  -- a unit of fill alone hands over no bits, and its flag speaks of that frame
+  pub fill-alone : map (λ last. reading two-octets (Last last) (frame 0 0x3F 0xFE (lent 2))) (16777215 ∷ 0 ∷ 5 ∷ [])
+      ≡ says 0 0 0 false ∷ says 0 0 0 true ∷ says 0 0 0 true ∷ []
   -- as few octets as hold the bits; none for more than the zone has, or of another frame
   pub leading : map (λ n. leading-octets two-octets n (frame 0 0 0 (0xA1 ∷ 0xA2 ∷ []))) (0 ∷ 1 ∷ 8 ∷ 9 ∷ 16 ∷ 17 ∷ [])
       ≡ [] ∷ (0xA1 ∷ []) ∷ (0xA1 ∷ []) ∷ (0xA1 ∷ 0xA2 ∷ []) ∷ (0xA1 ∷ 0xA2 ∷ []) ∷ [] ∷ []

@@ -121,3 +121,5 @@ pub record Written : Type 0 where
 pub record Wheel : Type 0 where
   pub missing-before : missing 24 0 1 ∷ missing 24 0 2 ∷ missing 24 0 0 ∷ missing 24 16777215 0 ∷ missing 24 5 4 ∷ missing 24 5 16777215 ∷ []
       ≡ 0 ∷ 1 ∷ 16777215 ∷ 0 ∷ 16777214 ∷ 16777209 ∷ []
+  -- and for numbers off the wheel
+  pub off-the-wheel : missing 24 16777216 1 ∷ missing 24 0 16777218 ∷ missing 24 4294967295 4294967295 ∷ [] ≡ 0 ∷ 1 ∷ 16777215 ∷ []

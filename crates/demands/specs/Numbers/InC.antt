@@ -105,7 +105,43 @@ pub record Bits : Type 0 where
   pub read : read-leaves bit-settings (1 ∷ 2 ∷ []) (0x50 ∷ 0x83 ∷ 0x00 ∷ 0x00 ∷ 0x04 ∷ 0x80 ∷ 0x00 ∷ 0x08 ∷ 0xAB ∷ 0x55 ∷ []) (lent 6)
       ≡ left 0 (1 ∷ 4 ∷ []) [] (4 ∷ 1 ∷ 1 ∷ 9 ∷ 8 ∷ 2 ∷ [])
 
+-- An array that is one short is refused by 2 before all else, and nothing is written.
+pub record Short : Type 0 where
+  pub packets : formed-leaves 6 ten [] ∷ wrap-leaves 6 0 0 [] (lent 2) [] ∷ unwrap-leaves 6 ten (lent 3) ∷ unit-leaves (lent 3) ten (lent 2) ∷ unit-leaves (lent 4) ten (lent 1) ∷ []
+      ≡ left 2 [] [] [] ∷ left 2 [] (lent 2) [] ∷ left 2 [] [] (lent 3) ∷ left 2 [] [] (lent 2) ∷ left 2 [] [] (lent 1) ∷ []
+  pub space : read-space-leaves [] (lent 7) ∷ write-space-leaves (lent 6) (lent 6) ∷ [] ≡ left 2 [] [] (lent 7) ∷ left 2 [] (lent 6) [] ∷ []
+  -- of settings, of a record and of an answer
+  pub mux : begin-leaves (lent 3)
+      ∷ mux-leaves to-flush 1 flush-numbers (lent 4) (lent 4) (lent 2) (lent 1)
+      ∷ mux-leaves to-flush 1 flush-numbers (lent 5) (lent 3) (lent 2) (lent 1)
+      ∷ mux-leaves to-flush 1 flush-numbers (lent 5) (lent 4) (lent 2) []
+      ∷ mux-leaves (to-put []) 2 put-numbers (lent 5) (lent 4) (lent 2) (lent 1)
+      ∷ []
+      ≡ left 2 (lent 3) [] [] ∷ left 2 (lent 4) (lent 2) (lent 1) ∷ left 2 (lent 3) (lent 2) (lent 1) ∷ left 2 (lent 4) (lent 2) [] ∷ left 2 (lent 4) (lent 2) (lent 1) ∷ []
+  pub extractor : enter-leaves (lent 4) (lent 4) [] [] (lent 6) ∷ enter-leaves (lent 5) (lent 3) [] [] (lent 6) ∷ enter-leaves (lent 5) (lent 4) [] [] (lent 5) ∷ step-leaves (lent 5) (lent 4) (lent 2) [] (lent 3) ∷ show-leaves (lent 3) [] [] (lent 3) ∷ show-leaves (lent 4) [] [] (lent 2) ∷ []
+      ≡ left 2 (lent 4) [] (lent 6) ∷ left 2 (lent 3) [] (lent 6) ∷ left 2 (lent 4) [] (lent 5) ∷ left 2 (lent 4) (lent 2) (lent 3) ∷ left 2 [] [] (lent 3) ∷ left 2 [] [] (lent 2) ∷ []
+  pub judge : judge-leaves (lent 4) (lent 4) (lent 2) [] ∷ judge-leaves (lent 5) (lent 3) (lent 2) [] ∷ close-leaves (lent 5) (lent 4) [] (lent 1) ∷ []
+      ≡ left 2 (lent 4) (lent 2) [] ∷ left 2 (lent 3) (lent 2) [] ∷ left 2 [] [] (lent 1) ∷ []
+  pub bits : write-leaves (lent 3) (lent 1) [] 0 (lent 2) ∷ write-leaves (lent 4) [] [] 0 (lent 2) ∷ read-leaves (lent 3) (lent 2) [] (lent 6) ∷ read-leaves (lent 4) (lent 1) [] (lent 6) ∷ read-leaves (lent 4) (lent 2) [] (lent 5) ∷ []
+      ≡ left 2 (lent 1) (lent 2) [] ∷ left 2 [] (lent 2) [] ∷ left 2 (lent 2) [] (lent 6) ∷ left 2 (lent 1) [] (lent 6) ∷ left 2 (lent 2) [] (lent 5) ∷ []
+
+-- A record of no kind, with an entry that its kind does not use or a number too great is refused by 10 and stays as it was; a limit that cannot be, by 1.
+pub record Refused : Type 0 where
+  pub kinds : map (λ (r : List ℕ). enter-leaves settings r store (frame 1 0x00 0x03 rest) (lent 6))
+      ((5 ∷ 0 ∷ 0 ∷ 0 ∷ []) ∷ (1 ∷ 0 ∷ 1 ∷ 0 ∷ []) ∷ (1 ∷ 4294967296 ∷ 0 ∷ 0 ∷ []) ∷ [])
+      ≡ map (λ (r : List ℕ). left 10 r [] (0 ∷ 0 ∷ 0 ∷ 0 ∷ 0 ∷ 0 ∷ []))
+      ((5 ∷ 0 ∷ 0 ∷ 0 ∷ []) ∷ (1 ∷ 0 ∷ 1 ∷ 0 ∷ []) ∷ (1 ∷ 4294967296 ∷ 0 ∷ 0 ∷ []) ∷ [])
+  pub judge : judge-leaves settings (3 ∷ 0 ∷ 0 ∷ 0 ∷ []) store [] ≡ left 10 (3 ∷ 0 ∷ 0 ∷ 0 ∷ []) store []
+  pub count : write-leaves bit-settings (4294967296 ∷ []) [] 0 (lent 10) ≡ left 10 (4294967296 ∷ []) (lent 10) []
+  pub reader : read-leaves bit-settings (2 ∷ 7 ∷ []) (frame 4 0x00 0x08 (lent 2)) (lent 6) ≡ left 10 (2 ∷ 7 ∷ []) [] (0 ∷ 0 ∷ 0 ∷ 0 ∷ 0 ∷ 0 ∷ [])
+  pub fill : write-leaves (66 ∷ 3 ∷ 2 ∷ 256 ∷ []) (4 ∷ []) [] 0 (lent 10) ≡ left 1 (4 ∷ []) (lent 10) []
+  pub limit : formed-leaves 6 ten (lent 1) ∷ unwrap-leaves 6 six (lent 4) ∷ [] ≡ left 1 [] [] (0 ∷ []) ∷ left 1 [] [] (0 ∷ 0 ∷ 0 ∷ 0 ∷ []) ∷ []
+  -- the first frame that a reader of bits reads
+  pub first-read : read-leaves bit-settings (0 ∷ 0 ∷ []) (frame 4 0x00 0x08 (lent 2)) (lent 6) ≡ left 0 (1 ∷ 4 ∷ []) [] (4 ∷ 0 ∷ 0 ∷ 9 ∷ 8 ∷ 2 ∷ [])
+
 pub record InC : Type 0 where
+  pub short : Short
+  pub refused : Refused
   pub stated : Settings
   pub packets : Packets
   pub multiplexer : Multiplexer

@@ -45,6 +45,9 @@ pub record Records : Type 0 where
   pub last-end : taken (running 16777216) 3 [] ∷ closed (Ended 16777216) ∷ [] ≡ Ended 16777216 ∷ Ended 16777216 ∷ []
   -- input that ends before a 3 is cut
   pub cut : map closed (Start ∷ running 4 ∷ Ended 4 ∷ Bad 3 ∷ []) ≡ Bad 0 ∷ Bad 5 ∷ Ended 4 ∷ Bad 3 ∷ []
+  -- a reader that is bad keeps its number, and takes no body
+  pub stays : map (λ kind. taken (Bad 3) kind setup) (1 ∷ 2 ∷ 3 ∷ []) ≡ Bad 3 ∷ Bad 3 ∷ Bad 3 ∷ []
+  pub no-bodies : map (body-length (Ended 4)) (1 ∷ 2 ∷ 3 ∷ []) ++ map (body-length (Bad 3)) (1 ∷ 2 ∷ 3 ∷ []) ≡ 0 ∷ 0 ∷ 0 ∷ 0 ∷ 0 ∷ 0 ∷ []
   -- a whole file, both ways, and the number of the record that is bad
   pub whole : reading one-frame ≡ record { setup = some (set 66 3 10 1024); frames = lent 18 ∷ []; bad = none }
   pub written : run-file (set 66 3 10 1024) (lent 18 ∷ []) ≡ one-frame

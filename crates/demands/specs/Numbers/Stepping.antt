@@ -59,6 +59,8 @@ pub record Events : Type 0 where
   -- 33 is version 001: damaged, then spent and out of step; so is a packet of 13 octets, but one of 12 is not
   pub damaged : steps (Walking 1 0 2) [] ≡ says 3 0 0 0 [] (Leaving 1) (lent 12)
   pub lengths : map finds ((0xE5 ∷ 13 ∷ lent 5) ∷ (0xE5 ∷ 12 ∷ lent 5) ∷ []) ≡ 3 ∷ 4 ∷ []
+  -- held octets whose header another frame damages: damaged too, and the store stays
+  pub damaged-held : step-answer small (Walking 1 1 0) (0xE9 ∷ lent 11) (frame 1 0 3 (0x01 ∷ lent 9)) ≡ says 3 0 0 0 [] (Leaving 1) (0xE9 ∷ lent 11)
   pub left : steps (Leaving 1) [] ≡ says 4 0 0 0 [] (Astray 1) (lent 12)
   -- unfinished octets go behind those held
   pub appended : step-answer least (Walking 1 1 0) (0x00 ∷ lent 7) (frame 1 0x07 0xFF (0x05 ∷ []))

@@ -4,7 +4,7 @@ use mathlib.Core.Path.{_≡_}
 use mathlib.Core.List.{List, []}
 use contract.Lifetimes.{Lfts}
 use denote.Ref.{now, at-last}
-use Rattle.multiplexer.specs.Calls.{to-put, to-flush, to-idle}
+use Rattle.multiplexer.specs.Calls.{Call, to-put, to-flush, to-idle, Answer}
 use Rattle.exports.specs.Left.{Left}
 use Rattle.exports.specs.Packet.{header-leaves, formed-leaves, wrap-leaves, unwrap-leaves, unit-leaves}
 use Rattle.exports.specs.Spaces.{read-space-leaves, write-space-leaves}
@@ -59,8 +59,24 @@ AnswerAlone o = NoNumbers o × NoOctets o
 abbrev pub leaving : (Left → Type 0) → Type 0 → (Left → Type 0) → Contract Left
 leaving lacks asks meets = as-read asks (λ o. meets o × lacks o)
 
+-- a refused call leaves its record's array and its octets as they were lent
+abbrev pub Keeps : Left → List ℕ → List ℕ → Type 0
+Keeps l numbers octets = (l .refusal ≡ 0 → ⊥) → (l .numbers ≡ numbers) × (l .octets ≡ octets)
+
+-- each call that writes a record or octets
+pub record RefusedKeep : Type 0 where
+  pub mux : (call : Call) (room : ℕ) (said : Answer → List ℕ) (settings numbers frame answer : List ℕ)
+      → Keeps (mux-leaves call room said settings numbers frame answer) numbers frame
+  pub enter : (settings numbers store frame answer : List ℕ) → Keeps (enter-leaves settings numbers store frame answer) numbers []
+  pub step : (settings numbers store frame answer : List ℕ) → Keeps (step-leaves settings numbers store frame answer) numbers store
+  pub judge : (settings numbers store frame : List ℕ) → Keeps (judge-leaves settings numbers store frame) numbers store
+  pub bits-written : (settings numbers bits : List ℕ) (n : ℕ) (frame : List ℕ) → Keeps (write-leaves settings numbers bits n frame) numbers frame
+  pub bits-read : (settings numbers frame answer : List ℕ) → Keeps (read-leaves settings numbers frame answer) numbers []
+  pub wrapped : (limit protocol extension : ℕ) (unit packet answer : List ℕ) → Keeps (wrap-leaves limit protocol extension unit packet answer) [] packet
+  pub space-written : (header octets : List ℕ) → Keeps (write-space-leaves header octets) [] octets
+
 -- Each call leaves what the rules give. What it leaves in a record's array states the record again, the parts that it names are those that the
--- library hands back, and an answer of all zeros is a refused one.
+-- library hands back, a refused call leaves its record and its octets as they were lent, and an answer of all zeros is a refused one.
 pub record OfExports : Type 0 where
   pub read-header : (κs : Lfts 2) (limit : ℕ) (octets answer : Slice)
       → Is (leaving AnswerAlone (read-header-fn.Pre κs (limit, (octets, (answer, tt)))) (λ o. read-header-fn.Post κs (limit, (octets, (answer, tt))) (o .refusal) (limit, (octets, (at-last answer (o .answer), tt)))))
@@ -118,4 +134,5 @@ pub record OfExports : Type 0 where
       (read-leaves (now settings) (now array) (now frame) (now answer))
   pub stated-again : (array : List ℕ) → StatedAgain array
   pub parts-named : (array : List ℕ) → PartsNamed array
+  pub refused-keep : RefusedKeep
   pub zero-is-refused : ZeroIsRefused

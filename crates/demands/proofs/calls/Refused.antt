@@ -1,0 +1,101 @@
+-- A refused call of the C interface leaves its record's array and its octets as they were lent.
+-- Assumes nothing.
+use Prim.Native.Nat.{ℕ}
+use mathlib.Core.Path.{_≡_, refl}
+use mathlib.Core.List.{List}
+use lib.ListN.{length}
+use lib.Dec.{ltb, eqb}
+use borrow.Author.Tests.{ne-eqb}
+use Rattle.octets.specs.Basics.{first}
+use Rattle.octets.proofs.Tests.{test}
+use Rattle.packets.specs.Wrap.{wrapped-total, wrap-rows, wrapping}
+use Rattle.space.specs.Space.{space-rows, space-writing}
+use Rattle.space.specs.declared.SpaceHeader.{SpaceHeader}
+use Rattle.frames.specs.declared.Settings.{Settings}
+use Rattle.frames.specs.declared.bits.BitSettings.{BitSettings}
+use Rattle.multiplexer.specs.Calls.{Call, call-rows, answer}
+use Rattle.multiplexer.specs.declared.Mux.{Mux}
+use Rattle.extractor.specs.Records.{step-rows, step-call}
+use Rattle.extractor.specs.Answers.{enter-answer, step-answer}
+use Rattle.extractor.specs.declared.Extractor.{Extractor}
+use Rattle.judge.specs.Calls.{frame-refusals, frame-call}
+use Rattle.judge.specs.declared.Judge.{Judge}
+use Rattle.bitstream.specs.Bitstream.{write-rows, written, reading}
+use Rattle.bitstream.specs.declared.Writer.{Writer}
+use Rattle.exports.specs.Channel.{short, settings-of}
+use Rattle.exports.specs.Packet.{wrap-leaves}
+use Rattle.exports.specs.Spaces.{header-of, write-space-leaves}
+use Rattle.exports.specs.Mux.{mux-of, mux-leaves}
+use Rattle.exports.specs.Extract.{extractor-of, enter-leaves, step-leaves}
+use Rattle.exports.specs.Judging.{judge-of, judge-leaves}
+use Rattle.exports.specs.Bits.{bits-short, bit-settings-of, writer-of, write-leaves, reader-of, read-leaves}
+use Rattle.demands.specs.calls.Exports.{RefusedKeep}
+use Rattle.demands.proofs.calls.Extractor.{unrefused}
+
+-- ---- what the library's own calls keep
+
+answer-kept : (s : Settings) (m : Mux) (c : Call) (frame : List ℕ) → (answer s m c frame .refusal ≡ 0 → ⊥) → answer s m c frame .frame ≡ frame
+unfolding answer
+answer-kept s m c frame h =
+    test (eqb (first (call-rows s m c (length frame))) 0) (λ t. absurd (h (rw t refl))) (λ t. rw t refl)
+
+step-kept : (s : Settings) (x : Extractor) (store f : List ℕ) → (step-answer s x store f .answer .refusal ≡ 0 → ⊥) → step-answer s x store f .store ≡ store
+unfolding step-answer step-call
+step-kept s x store f h =
+    test (eqb (first (step-rows s x store f)) 0) (λ t. absurd (h (rw t (unrefused s f store x)))) (λ t. rw t refl)
+
+judged-kept : (s : Settings) (store : List ℕ) (j : Judge) (f : List ℕ) → (frame-call s store j f .refusal ≡ 0 → ⊥) → frame-call s store j f .store ≡ store
+unfolding frame-call
+judged-kept s store j f h = test (eqb (first (frame-refusals s store j)) 0) (λ t. absurd (h (rw t refl))) (λ t. rw t refl)
+
+written-kept : (s : BitSettings) (w : Writer) (bits : List ℕ) (n : ℕ) (frame : List ℕ) → (written s w bits n frame .said .refusal ≡ 0 → ⊥)
+    → written s w bits n frame .frame ≡ frame
+unfolding written
+written-kept s w bits n frame h =
+    test (eqb (first (write-rows s w n (length bits) (length frame))) 0) (λ t. absurd (h (rw t refl))) (λ t. rw t refl)
+
+wrapped-kept : (limit protocol extension : ℕ) (unit output : List ℕ) → (wrapping limit protocol extension unit output .refusal ≡ 0 → ⊥)
+    → wrapping limit protocol extension unit output .output ≡ output
+unfolding wrapping
+wrapped-kept limit protocol extension unit output h =
+    test (eqb (first (wrap-rows limit protocol extension (length unit) (wrapped-total protocol (length unit)) (length output))) 0)
+    (λ t. absurd (h (rw t refl))) (λ t. rw t refl)
+
+space-kept : (h : SpaceHeader) (output : List ℕ) → (space-writing h output .refusal ≡ 0 → ⊥) → space-writing h output .output ≡ output
+unfolding space-writing
+space-kept h output refused = rw (ne-eqb (first (space-rows h (length output))) 0 refused) refl
+
+-- ---- and what is left of them in arrays
+
+pub refused-keep : RefusedKeep
+unfolding mux-leaves enter-leaves step-leaves judge-leaves write-leaves read-leaves wrap-leaves write-space-leaves
+refused-keep = record {
+  mux = λ call room said settings numbers frame array.
+      let a = answer (settings-of settings) (mux-of numbers) call frame in
+      test (short (length settings) (length numbers) (length array) room) (λ t. rw t (λ h. (refl, refl)))
+      (λ t. rw t (λ h. (rw (ne-eqb (a .refusal) 0 h) refl, answer-kept (settings-of settings) (mux-of numbers) call frame h)));
+  enter = λ settings numbers store frame array.
+      let a = enter-answer (settings-of settings) (extractor-of numbers) store frame in
+      test (short (length settings) (length numbers) (length array) 6) (λ t. rw t (λ h. (refl, refl)))
+      (λ t. rw t (λ h. (rw (ne-eqb (a .answer .refusal) 0 h) refl, refl)));
+  step = λ settings numbers store frame array.
+      let a = step-answer (settings-of settings) (extractor-of numbers) store frame in
+      test (short (length settings) (length numbers) (length array) 4) (λ t. rw t (λ h. (refl, refl)))
+      (λ t. rw t (λ h. (rw (ne-eqb (a .answer .refusal) 0 h) refl, step-kept (settings-of settings) (extractor-of numbers) store frame h)));
+  judge = λ settings numbers store frame.
+      let a = frame-call (settings-of settings) store (judge-of numbers) frame in
+      test (short (length settings) (length numbers) 0 0) (λ t. rw t (λ h. (refl, refl)))
+      (λ t. rw t (λ h. (rw (ne-eqb (a .refusal) 0 h) refl, judged-kept (settings-of settings) store (judge-of numbers) frame h)));
+  bits-written = λ settings numbers bits n frame.
+      let a = written (bit-settings-of settings) (writer-of numbers) bits n frame in
+      test (bits-short (length settings) (length numbers) 1 0 0) (λ t. rw t (λ h. (refl, refl)))
+      (λ t. rw t (λ h. (rw (ne-eqb (a .said .refusal) 0 h) refl, written-kept (bit-settings-of settings) (writer-of numbers) bits n frame h)));
+  bits-read = λ settings numbers frame array.
+      let a = reading (bit-settings-of settings) (reader-of numbers) frame in
+      test (bits-short (length settings) (length numbers) 2 (length array) 6) (λ t. rw t (λ h. (refl, refl)))
+      (λ t. rw t (λ h. (rw (ne-eqb (a .refusal) 0 h) refl, refl)));
+  wrapped = λ limit protocol extension unit packet array.
+      test (ltb (length array) 1) (λ t. rw t (λ h. (refl, refl))) (λ t. rw t (λ h. (refl, wrapped-kept limit protocol extension unit packet h)));
+  space-written = λ header octets.
+      test (ltb (length header) 7) (λ t. rw t (λ h. (refl, refl))) (λ t. rw t (λ h. (refl, space-kept (header-of header) octets h)));
+}

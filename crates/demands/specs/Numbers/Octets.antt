@@ -1,0 +1,23 @@
+-- Octets and numbers by examples: the most significant octet first, and nothing written or read past an end.
+use mathlib.Core.Path.{_≡_}
+use mathlib.Core.List.{[], _∷_, map}
+use mathlib.Core.Bool.{true, false}
+use Rattle.octets.specs.Basics.{octets, field, placed, number-at, fits, laid, part-fits, laid-part}
+use Rattle.demands.specs.Numbers.Samples.{lent}
+
+pub record Octets : Type 0 where
+  pub read : map (λ at. number-at 2 at (1 ∷ 2 ∷ 3 ∷ [])) (0 ∷ 1 ∷ 2 ∷ []) ≡ 0x0102 ∷ 0x0203 ∷ 0 ∷ []
+  pub written : octets 3 0x010203 ∷ octets 2 0x010203 ∷ [] ≡ (1 ∷ 2 ∷ 3 ∷ []) ∷ (2 ∷ 3 ∷ []) ∷ []
+  pub fields : field 0xABCD 4 8 ∷ placed 0xABCD 4 8 0x112 ∷ [] ≡ 0xBC ∷ 0xA12D ∷ []
+  -- a run that ends with its buffer fits; one that ends behind it is not written
+  pub room : map (λ at. fits (lent 4) at 2) (0 ∷ 2 ∷ 3 ∷ []) ≡ true ∷ true ∷ false ∷ []
+  pub over : map (λ at. laid (lent 4) at (1 ∷ 2 ∷ [])) (0 ∷ 2 ∷ 3 ∷ []) ≡ (1 ∷ 2 ∷ 0xFF ∷ 0xFF ∷ []) ∷ (0xFF ∷ 0xFF ∷ 1 ∷ 2 ∷ []) ∷ lent 4 ∷ []
+  -- a part is there from its start up to its end, and both lie within their octets
+  pub part : part-fits (lent 4) 2 1 3 (7 ∷ 8 ∷ 9 ∷ [])
+      ∷ part-fits (lent 4) 3 1 3 (7 ∷ 8 ∷ 9 ∷ [])
+      ∷ part-fits (lent 4) 2 1 4 (7 ∷ 8 ∷ 9 ∷ [])
+      ∷ part-fits (lent 4) 2 3 1 (7 ∷ 8 ∷ 9 ∷ [])
+      ∷ []
+      ≡ true ∷ false ∷ false ∷ false ∷ []
+  pub part-over : laid-part (lent 4) 2 1 3 (7 ∷ 8 ∷ 9 ∷ []) ∷ laid-part (lent 4) 3 1 3 (7 ∷ 8 ∷ 9 ∷ []) ∷ []
+      ≡ (0xFF ∷ 0xFF ∷ 8 ∷ 9 ∷ []) ∷ lent 4 ∷ []
