@@ -1,48 +1,71 @@
 -- The rows of settings, store and record: the extractor's own, and the judge's numbers below them.
 -- Assumes nothing.
-use mathlib.Core.Path.{_≡_, refl}
+use mathlib.Core.Path.{_≡_, refl, sym, _∙_}
 use mathlib.Core.List.{List, []}
 use mathlib.Core.Bool.{Bool, true, false, not}
 use Prim.Native.Nat.{ℕ}
 use native.Mathlib.Omega.{arith}
 use lib.ListN.{length}
-use lib.Dec.{ltb}
+use lib.Dec.{leb, ltb}
 use Rattle.octets.specs.Basics.{pick, and, first}
-use Rattle.frames.specs.Frame.{in-range}
+use Rattle.frames.specs.Frame.{in-range, most-frames}
 use Rattle.frames.specs.declared.Settings.{Settings}
 use Rattle.extractor.specs.Records.{reachable, checked}
-use Rattle.judge.specs.Calls.{extractor-of, counts-well, judge-reachable}
-use Rattle.judge.specs.Trials.{refused-above}
+use Rattle.judge.specs.Calls.{tally-of, extractor-of, counts-well, judge-reachable, frame-refusals, close-rows}
 use Rattle.judge.specs.declared.Judge.{Judge}
 
 abbrev three : Bool → Bool → Bool → ℕ → ℕ
 three a b t below = pick (not a) 1 (pick b 2 (pick (not t) 10 below))
 
-some-refuses : (a b t u : Bool) (below : ℕ) → (three a b t 0 ≡ 0 → ⊥) → three a b t 0 ≡ three a b (and t u) below
-some-refuses false b t u below some = refl
-some-refuses true true t u below some = refl
-some-refuses true false true u below some = absurd (some refl)
-some-refuses true false false u below some = refl
+-- a row that holds refuses, whatever stands below it
+some : (a b t : Bool) (below : ℕ) → (three a b t 0 ≡ 0 → ⊥) → three a b t 0 ≡ three a b t below
+some false b t below h = refl
+some true true t below h = refl
+some true false true below h = absurd (h refl)
+some true false false below h = refl
 
-none-refuses : (a b t u : Bool) (below : ℕ) → three a b t 0 ≡ 0 → (a ≡ true) × (pick (not u) 10 below ≡ three a b (and t u) below)
-none-refuses false b t u below none = absurd (omega arith)
-none-refuses true true t u below none = absurd (omega arith)
-none-refuses true false true u below none = (refl, refl)
-none-refuses true false false u below none = absurd (omega arith)
+-- where none holds, what stands below them decides
+none : (a b t : Bool) (below : ℕ) → three a b t 0 ≡ 0 → (a ≡ true) × (below ≡ three a b t below)
+none false b t below e = absurd (omega arith)
+none true true t below e = absurd (omega arith)
+none true false true below e = (refl, refl)
+none true false false below e = absurd (omega arith)
+
+-- two tests of a record are one row
+both : (a b t u : Bool) → three a b t (pick (not u) 10 0) ≡ three a b (and t u) 0
+both a b true u = refl
+both a b false u = refl
 
 module _ (s : Settings) (store : List ℕ) (j : Judge) where
+  abbrev short : Bool
+  short = ltb (length store) (s .limit)
+
+  abbrev held-well : Bool
+  held-well = reachable s store (extractor-of j)
+
   -- what the extractor's rows tell of the record that the judge goes on from
   abbrev pub holding : ℕ
   holding = first (checked s (extractor-of j) store [])
 
   -- where they refuse, the judge does so by the same number
-  pub refused-holding : (below : ℕ) → (holding ≡ 0 → ⊥) → holding ≡ refused-above s store j below
-  unfolding first judge-reachable
-  refused-holding below some =
-      some-refuses (in-range s) (ltb (length store) (s .limit)) (reachable s store (extractor-of j)) (counts-well s j) below some
+  pub refused-holding : (holding ≡ 0 → ⊥) → holding ≡ first (close-rows s store j)
+  unfolding first close-rows judge-reachable
+  refused-holding h =
+      some (in-range s) short held-well (pick (not (counts-well s j)) 10 0) h ∙ both (in-range s) short held-well (counts-well s j)
 
   -- where they do not, the record's own numbers decide
-  pub accepted-holding : (below : ℕ) → holding ≡ 0 → (in-range s ≡ true) × (pick (not (counts-well s j)) 10 below ≡ refused-above s store j below)
-  unfolding first judge-reachable
-  accepted-holding below none =
-      none-refuses (in-range s) (ltb (length store) (s .limit)) (reachable s store (extractor-of j)) (counts-well s j) below none
+  pub accepted-holding : holding ≡ 0 → (in-range s ≡ true) × (pick (not (counts-well s j)) 10 0 ≡ first (close-rows s store j))
+  unfolding first close-rows judge-reachable
+  accepted-holding e =
+      let passed = none (in-range s) short held-well (pick (not (counts-well s j)) 10 0) e in
+      (passed .0, passed .1 ∙ both (in-range s) short held-well (counts-well s j))
+
+  -- the same of a frame's rows: its own stands below those of the close
+  module _ {r : ℕ} (e : r ≡ first (close-rows s store j)) where
+    pub refused-close : (r ≡ 0 → ⊥) → r ≡ first (frame-refusals s store j)
+    unfolding first close-rows frame-refusals
+    refused-close h = e ∙ some (in-range s) short (judge-reachable s store j) (pick (leb most-frames (tally-of j)) 11 0) (λ z. h (e ∙ z))
+
+    pub accepted-close : r ≡ 0 → pick (leb most-frames (tally-of j)) 11 0 ≡ first (frame-refusals s store j)
+    unfolding first close-rows frame-refusals
+    accepted-close z = none (in-range s) short (judge-reachable s store j) (pick (leb most-frames (tally-of j)) 11 0) (sym e ∙ z) .1

@@ -1,25 +1,18 @@
 -- What the parts of a call that is not refused go by.
 use mathlib.Core.Path.{_≡_}
 use mathlib.Core.List.{List}
-use mathlib.Core.Bool.{true, not}
+use mathlib.Core.Bool.{true}
 use Prim.Native.Nat.{ℕ, suc, _+_, _≤_, _<_}
 use lib.ListN.{length}
-use lib.Dec.{ltb}
-use Rattle.octets.specs.Basics.{pick}
 use Rattle.frames.specs.Frame.{in-range, most-frames}
 use Rattle.frames.specs.declared.Settings.{Settings}
 use Rattle.extractor.specs.Records.{reachable}
 use Rattle.extractor.specs.Calls.{Finds, steps, SpentLast}
 use Rattle.extractor.specs.declared.Extractor.{Extractor}
 use Rattle.extractor.specs.declared.Extractor.the-variants.{Fresh, Astray, InStep, Walking, Leaving}
-use Rattle.judge.specs.Calls.{judge-reachable, faults-at}
+use Rattle.judge.specs.Calls.{faults-at}
 use Rattle.judge.specs.declared.Judge.{Judge}
 use Rattle.judge.specs.declared.Judge.the-variants.{Sound}
-
--- what settings, store and record are refused for; else what is refused below them
-abbrev pub refused-above : Settings → List ℕ → Judge → ℕ → ℕ
-refused-above s store j below =
-    pick (not (in-range s)) 1 (pick (ltb (length store) (s .limit)) 2 (pick (not (judge-reachable s store j)) 10 below))
 
 -- all the steps of a frame that is entered
 abbrev pub through : Settings → List ℕ → Extractor → List ℕ → Finds

@@ -32,24 +32,32 @@ pub enum Closed {
     Fault { at: u32 },
 }
 
+// A frame beyond the last that a run can have.
+const REFUSED_LAST: u8 = 11;
+
 // One whole frame of the run. Up to the first fault the store changes as the extractor's steps change it.
 pub fn frame(s: Settings, j: Judge, store: &mut [u8], frame: &[u8]) -> Judged
     ensures { λ r. ⌜ frame-says r (now (store .exit)) ≡ frame-call s (now (store .entry)) j (now (frame .entry)) ⌝ }
 {
-    let last = octets::refused(MOST_FRAMES <= record::tally_of(j), 11, 0);
-    let refusal = record::refusal(s, j, store, last);
+    let refusal = record::refusal(s, j, store);
     if refusal != 0 {
         return Judged { refusal, next: j };
     }
+    if MOST_FRAMES <= record::tally_of(j) {
+        return Judged {
+            refusal: REFUSED_LAST,
+            next: j,
+        };
+    }
     let next = trial::judged(s, j, store, frame);
-    Judged { refusal, next }
+    Judged { refusal: 0, next }
 }
 
 // The verdict on the frames so far. Record and store stay as they are.
 pub fn close(s: Settings, j: Judge, store: &[u8]) -> Closed
     ensures { λ r. ⌜ close-says r ≡ close-call s (now (store .entry)) j ⌝ }
 {
-    let refusal = record::refusal(s, j, store, 0);
+    let refusal = record::refusal(s, j, store);
     if refusal != 0 {
         return Closed::Refused { refusal };
     }

@@ -1,14 +1,17 @@
 // The judge's record: whether the rules can reach it, and the verdict that it comes to.
 ghost use mathlib.Core.Path.{_≡_};
 ghost use mathlib.Core.Bool.{true};
+ghost use Rattle.octets.specs.Basics.{first};
 ghost use Rattle.frames.specs.Frame.{in-range};
-ghost use Rattle.judge.specs.Calls.{tally-of, counts-well, extractor-of, judge-close, closes-with};
-ghost use Rattle.judge.specs.Trials.{refused-above};
+ghost use Rattle.judge.specs.Calls.{tally-of, counts-well, extractor-of, close-rows, judge-close, closes-with};
 use crate::Closed;
 use crate::Judge;
 use extractor::Extractor;
 use frames::MOST_FRAMES;
 use frames::Settings;
+
+// No frames lead to the record.
+const REFUSED_RECORD: u8 = 10;
 
 // The frames that it has seen.
 pub(crate) fn tally_of(j: Judge) -> u32
@@ -16,12 +19,8 @@ pub(crate) fn tally_of(j: Judge) -> u32
 {
     match j {
         Judge::Open => 0,
-        Judge::Sound {
-            tally,
-            last: _,
-            held: _,
-        } => tally,
-        Judge::Faulty { tally, at: _ } => tally,
+        Judge::Sound { tally, .. } => tally,
+        Judge::Faulty { tally, .. } => tally,
     }
 }
 
@@ -32,11 +31,8 @@ fn counts_well(s: Settings, j: Judge) -> bool
 {
     match j {
         Judge::Open => true,
-        Judge::Sound {
-            tally,
-            last: _,
-            held,
-        } => (1 <= tally) & ((tally <= MOST_FRAMES) & (held <= tally as usize * s.zone)),
+        Judge::Sound { tally, held, .. } => (1 <= tally)
+            & ((tally <= MOST_FRAMES) & (held <= tally as usize * s.zone)),
         Judge::Faulty { tally, at } => (at < tally) & (tally <= MOST_FRAMES),
     }
 }
@@ -47,24 +43,23 @@ fn extractor_of(j: Judge) -> Extractor
 {
     match j {
         Judge::Open => Extractor::Fresh,
-        Judge::Sound {
-            tally: _,
-            last,
-            held,
-        } => Extractor::InStep { last, held },
-        Judge::Faulty { tally: _, at: _ } => Extractor::Fresh,
+        Judge::Sound { last, held, .. } => Extractor::InStep { last, held },
+        Judge::Faulty { .. } => Extractor::Fresh,
     }
 }
 
-// What settings, store and record are refused for; else what is refused below them.
-pub(crate) fn refusal(s: Settings, j: Judge, store: &[u8], below: u8) -> u8
-    ensures { λ r. ⌜ r ≡ refused-above s (now (store .entry)) j below ⌝ }
+// What settings, store and record are refused for; 0 where they are not.
+pub(crate) fn refusal(s: Settings, j: Judge, store: &[u8]) -> u8
+    ensures { λ r. ⌜ r ≡ first (close-rows s (now (store .entry)) j) ⌝ }
 {
     let holding = extractor::record_refusal(s, extractor_of(j), store);
     if holding != 0 {
         return holding;
     }
-    octets::refused(!counts_well(s, j), 10, below)
+    if !counts_well(s, j) {
+        return REFUSED_RECORD;
+    }
+    0
 }
 
 // The verdict that it comes to.
@@ -73,17 +68,13 @@ pub(crate) fn verdict(j: Judge) -> Closed
 {
     match j {
         Judge::Open => Closed::Pass,
-        Judge::Sound {
-            tally,
-            last: _,
-            held,
-        } => {
+        Judge::Sound { tally, held, .. } => {
             if held == 0 {
                 Closed::Pass
             } else {
                 Closed::Fault { at: tally }
             }
         }
-        Judge::Faulty { tally: _, at } => Closed::Fault { at },
+        Judge::Faulty { at, .. } => Closed::Fault { at },
     }
 }

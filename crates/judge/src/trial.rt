@@ -45,13 +45,9 @@ fn goes_on(found: Found) -> bool
     ensures { λ r. ⌜ r ≡ goes-on found ⌝ }
 {
     match found {
-        Found::Refused { refusal: _ } => false,
-        Found::InFrame {
-            start: _,
-            size: _,
-            idle: _,
-        } => true,
-        Found::InStore { size: _, idle: _ } => true,
+        Found::Refused { .. } => false,
+        Found::InFrame { .. } => true,
+        Found::InStore { .. } => true,
         Found::Damaged => true,
         Found::Spent => false,
     }
