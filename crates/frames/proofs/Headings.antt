@@ -1,15 +1,15 @@
--- What a frame is refused for and what its header says, with the numbers as the code reads them: for frames of any length that
--- has room for both headers, and any fields of the zone's header.
+-- What a header says, with the numbers as the code reads them: for frames of any length that has room for both headers, and any
+-- fields of the zone's header.
 -- Assumes nothing.
 use mathlib.Core.Path.{_≡_, refl}
 use mathlib.Core.List.{List, _∷_}
-use mathlib.Core.Bool.{Bool, true, false, not}
+use mathlib.Core.Bool.{Bool, true, not}
 use Prim.Native.Nat.{ℕ, _≤_}
 use native.Mathlib.Omega.{arith}
 use lib.ListN.{length}
 use lib.Dec.{eqb}
 use borrow.Author.Tests.{eqb-true}
-use Rattle.octets.specs.Basics.{pick, read, number-at, Row, row, first}
+use Rattle.octets.specs.Basics.{read, number-at, Row, row, first}
 use Rattle.octets.specs.declared.Place.{Place}
 use Rattle.octets.proofs.Numbers.{number-within}
 use Rattle.frames.specs.Link.{primary, zone-head, header-rows, count-place, replay-place}
@@ -35,13 +35,11 @@ module _ (l : Link) (spare pointer : Place) (unused : ℕ → Bool) where
   abbrev pub heading-by : ℕ → ℕ → ℕ → Heading
   heading-by n head zone = heading-of n (read count-place head) (read replay-place head) (read pointer zone)
 
-  pub heading-reads : (f : List ℕ) (len : ℕ) (settled long : Bool) (n head zone : ℕ) → 8 ≤ len → eqb (length f) len ≡ long
-      → head ≡ number-at 6 0 f → zone ≡ number-at 2 6 f → n ≡ pick (not settled) 1 (pick (not long) 3 (first (rows-by head zone)))
+  pub heading-reads : (f : List ℕ) (len : ℕ) {settled : Bool} {n head zone : ℕ} → 8 ≤ len → settled ≡ true → eqb (length f) len ≡ true
+      → head ≡ number-at 6 0 f → zone ≡ number-at 2 6 f → n ≡ first (rows-by head zone)
       → heading-by n head zone
       ≡ heading-by (first (row 1 (not settled) ∷ row 3 (not (eqb (length f) len)) ∷ rows-by (primary l f) (zone-head l f))) (primary l f) (zone-head l f)
-  unfolding heading-of first
-  heading-reads f len true true n head zone k e h z r =
+  unfolding first
+  heading-reads f len k i e h z r =
       let room : 8 ≤ length f = omega (arith, eqb-true (length f) len e) in
-      rw (r, h, z, primary-at l f room, zone-head-at l f room, e) refl
-  heading-reads f len true false n head zone k e h z r = rw (r, e) refl
-  heading-reads f len false long n head zone k e h z r = rw r refl
+      rw (i, e, r, h, z, primary-at l f room, zone-head-at l f room) refl

@@ -80,12 +80,16 @@ frame-rows s f =
 unfoldable pub heading-rows : Settings → List ℕ → List Row
 heading-rows s f = row 1 (not (in-range s)) ∷ frame-rows s f
 
+-- a refusal alone
+abbrev pub no-heading : ℕ → Heading
+no-heading refusal = record { refusal = refusal; count = 0; replay = 0; pointer = 0 }
+
 -- what a header says, where it is not refused; else the refusal alone
 unfoldable pub heading-of : ℕ → ℕ → ℕ → ℕ → Heading
 heading-of refusal c r p =
     pick (eqb refusal 0)
     (record { refusal = 0; count = c; replay = r; pointer = p })
-    (record { refusal = refusal; count = 0; replay = 0; pointer = 0 })
+    (no-heading refusal)
 
 unfoldable pub heading : Settings → List ℕ → Heading
 heading s f = heading-of (first (heading-rows s f)) (count s f) (replay s f) (pointer s f)

@@ -7,6 +7,8 @@ ghost use Rattle.frames.specs.Frame.{frame-length};
 ghost use Rattle.frames.specs.BitFrame.{bits-in-range, bit-frame-length, bit-unused, bit-heading, bit-head, bit-head-rows};
 use super::Heading;
 use super::Link;
+use super::REFUSED_LENGTH;
+use super::REFUSED_SETTING;
 use super::Settings;
 use octets::Place;
 
@@ -22,6 +24,12 @@ pub const FILL_ONLY: u16 = 16382;
 
 pub const ALL_VALID: u16 = 16383;
 
+// A zone has so many octets at most.
+const MOST_WIDTH: usize = 2047;
+
+// So many numbers fit a pointer's field.
+const POINTERS: u16 = 16384;
+
 const ZONE_SPARE: Place = Place {
     below: 14,
     width: 2,
@@ -35,7 +43,7 @@ const POINTER: Place = Place {
 pub fn in_range(s: BitSettings) -> bool
     ensures { λ r. ⌜ r ≡ bits-in-range s ⌝ }
 {
-    super::link_in_range(s.link) & ((1 <= s.width) & (s.width <= 2047))
+    super::link_in_range(s.link) & ((1 <= s.width) & (s.width <= MOST_WIDTH))
 }
 
 // A packet channel whose frames are as long: its zone has W octets.
@@ -71,19 +79,24 @@ fn unused(s: BitSettings, pointer: u64) -> bool
     requires { ⌜ pointer < 2 ^ 16 ⌝ }
     ensures { λ r. ⌜ r ≡ bit-unused s pointer ⌝ }
 {
-    (s.width as u64 <= (pointer + 1) / 8) & (pointer <= 16381)
+    (s.width as u64 <= (pointer + 1) / 8) & (pointer < FILL_ONLY as u64)
 }
 
 // What the header of a frame says, or what the frame is refused for.
 pub fn read_head(s: BitSettings, frame: &[u8]) -> Heading
     ensures { λ r. ⌜ r ≡ bit-heading s (now (frame .entry)) ⌝ }
 {
+    if !in_range(s) {
+        return super::refused(REFUSED_SETTING);
+    }
+    if !has_length(s, frame.len()) {
+        return super::refused(REFUSED_LENGTH);
+    }
     let head = octets::number6(frame, 0);
     let zone = octets::number2(frame, 6) as u64;
     let pointer = octets::field(zone, POINTER);
     let spare = octets::field(zone, ZONE_SPARE);
-    let below = super::header_refusal(s.link, head, spare, unused(s, pointer));
-    let refusal = super::frame_refusal(in_range(s), has_length(s, frame.len()), below);
+    let refusal = super::header_refusal(s.link, head, spare, unused(s, pointer));
     super::heading_of(refusal, head, pointer)
 }
 
@@ -92,7 +105,7 @@ pub fn write_head(s: BitSettings, count: u32, pointer: u16, buf: &mut [u8]) -> u
     ensures { λ r. ⌜ r ≡ first (bit-head-rows s count pointer (now (buf .entry))) ⌝ }
     ensures { λ r. ⌜ now (buf .exit) ≡ pick (eqb r 0) (over (now (buf .entry)) 0 (bit-head s count pointer)) (now (buf .entry)) ⌝ }
 {
-    let pointed = (pointer < 16384) & !unused(s, pointer as u64);
+    let pointed = (pointer < POINTERS) & !unused(s, pointer as u64);
     let zone = octets::placed(0, POINTER, pointer as u64);
     super::write_headers(s.link, in_range(s), count, pointed, zone, buf)
 }

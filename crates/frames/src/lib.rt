@@ -1,11 +1,10 @@
 // Frames: the settings of a channel, a frame's header read and written, and the wheel of its count.
 ghost use mathlib.Core.Path.{_≡_};
-ghost use mathlib.Core.Bool.{not};
 ghost use Prim.Native.Nat.{_^_, _<_};
 ghost use lib.Dec.{ltb, eqb};
 ghost use Rattle.octets.specs.Basics.{pick, first, over, read};
 ghost use Rattle.frames.specs.Link.{link-in-range, count-place, replay-place, header-rows, written-rows, head-word, headers, missing};
-ghost use Rattle.frames.specs.Frame.{in-range, frame-length, unused, heading-of, heading, head, head-rows};
+ghost use Rattle.frames.specs.Frame.{in-range, frame-length, unused, no-heading, heading-of, heading, head, head-rows};
 use octets::Place;
 
 pub mod bits;
@@ -49,8 +48,34 @@ pub const REFUSED_SETTING: u8 = 1;
 // A lent buffer is too short.
 pub const REFUSED_ROOM: u8 = 2;
 
+// A frame to be read does not have exactly its length.
+pub(crate) const REFUSED_LENGTH: u8 = 3;
+
+// The frame's version is not 01.
+const REFUSED_VERSION: u8 = 4;
+
+// The frame is of another spacecraft or channel.
+const REFUSED_CHANNEL: u8 = 5;
+
+// A spare bit is 1.
+const REFUSED_SPARE: u8 = 6;
+
+// The frame's pointer is one that is not used.
+const REFUSED_POINTER: u8 = 7;
+
 // A judged run has so many frames at most.
 pub const MOST_FRAMES: u32 = 16777216;
+
+// A zone has so many octets at most.
+const MOST_ZONE: usize = 2046;
+
+// The least and the greatest M.
+const LEAST_LIMIT: usize = 7;
+
+const MOST_LIMIT: usize = 65542;
+
+// So many numbers fit a pointer's field.
+const POINTERS: u16 = 2048;
 
 const VERSION: Place = Place {
     below: 46,
@@ -95,8 +120,8 @@ pub(crate) fn link_in_range(l: Link) -> bool
 pub fn in_range(s: Settings) -> bool
     ensures { λ r. ⌜ r ≡ in-range s ⌝ }
 {
-    let limit = (s.zone <= s.limit) & ((7 <= s.limit) & (s.limit <= 65542));
-    link_in_range(s.link) & ((1 <= s.zone) & ((s.zone <= 2046) & limit))
+    let limit = (s.zone <= s.limit) & ((LEAST_LIMIT <= s.limit) & (s.limit <= MOST_LIMIT));
+    link_in_range(s.link) & ((1 <= s.zone) & ((s.zone <= MOST_ZONE) & limit))
 }
 
 // Whether a frame of these settings has so many octets.
@@ -120,42 +145,50 @@ pub fn is_short(s: Settings, len: usize) -> bool
 fn unused(s: Settings, pointer: u64) -> bool
     ensures { λ r. ⌜ r ≡ unused s pointer ⌝ }
 {
-    (s.zone as u64 <= pointer) & (pointer <= 2045)
+    (s.zone as u64 <= pointer) & (pointer < IDLE_ZONE as u64)
 }
 
 // What a frame of the right length is refused for, by its own header, the zone's spare bits and a pointer that is not used.
 pub(crate) fn header_refusal(l: Link, head: u64, spare: u64, unused: bool) -> u8
     ensures { λ r. ⌜ r ≡ first (header-rows l head spare unused) ⌝ }
 {
+    if octets::field(head, VERSION) != 1 {
+        return REFUSED_VERSION;
+    }
     let channel = (octets::field(head, SPACECRAFT) == l.spacecraft as u64)
         & (octets::field(head, CHANNEL) == l.channel as u64);
+    if !channel {
+        return REFUSED_CHANNEL;
+    }
     let clear = (octets::field(head, SPARE) == 0) & (spare == 0);
-    let below = octets::refused(!clear, 6, octets::refused(unused, 7, 0));
-    octets::refused(
-        octets::field(head, VERSION) != 1,
-        4,
-        octets::refused(!channel, 5, below),
-    )
+    if !clear {
+        return REFUSED_SPARE;
+    }
+    if unused {
+        return REFUSED_POINTER;
+    }
+    0
 }
 
-// The rows above those: settings out of range, and a frame of another length.
-pub(crate) fn frame_refusal(settled: bool, long: bool, below: u8) -> u8
-    ensures { λ r. ⌜ r ≡ pick (not settled) 1 (pick (not long) 3 below) ⌝ }
+// A refusal alone.
+pub(crate) fn refused(refusal: u8) -> Heading
+    ensures { λ r. ⌜ r ≡ no-heading refusal ⌝ }
 {
-    octets::refused(!settled, 1, octets::refused(!long, 3, below))
+    Heading {
+        refusal,
+        count: 0,
+        replay: 0,
+        pointer: 0,
+    }
 }
 
+// What a header says that is not refused; else the refusal alone.
 pub(crate) fn heading_of(refusal: u8, head: u64, pointer: u64) -> Heading
     requires { ⌜ pointer < 2 ^ 16 ⌝ }
     ensures { λ r. ⌜ r ≡ heading-of refusal (read count-place head) (read replay-place head) pointer ⌝ }
 {
     if refusal != 0 {
-        return Heading {
-            refusal,
-            count: 0,
-            replay: 0,
-            pointer: 0,
-        };
+        return refused(refusal);
     }
     Heading {
         refusal: 0,
@@ -169,12 +202,17 @@ pub(crate) fn heading_of(refusal: u8, head: u64, pointer: u64) -> Heading
 pub fn read_head(s: Settings, frame: &[u8]) -> Heading
     ensures { λ r. ⌜ r ≡ heading s (now (frame .entry)) ⌝ }
 {
+    if !in_range(s) {
+        return refused(REFUSED_SETTING);
+    }
+    if !has_length(s, frame.len()) {
+        return refused(REFUSED_LENGTH);
+    }
     let head = octets::number6(frame, 0);
     let zone = octets::number2(frame, 6) as u64;
     let pointer = octets::field(zone, POINTER);
     let spare = octets::field(zone, ZONE_SPARE);
-    let below = header_refusal(s.link, head, spare, unused(s, pointer));
-    let refusal = frame_refusal(in_range(s), has_length(s, frame.len()), below);
+    let refusal = header_refusal(s.link, head, spare, unused(s, pointer));
     heading_of(refusal, head, pointer)
 }
 
@@ -209,13 +247,15 @@ pub(crate) fn write_headers(
     ensures { λ r. ⌜ r ≡ first (written-rows l settled count pointed (now (buf .entry))) ⌝ }
     ensures { λ r. ⌜ now (buf .exit) ≡ pick (eqb r 0) (over (now (buf .entry)) 0 (headers l count 0 zone)) (now (buf .entry)) ⌝ }
 {
-    let room = octets::refused(buf.len() < ZONE_AT, 2, 0);
-    let refusal = octets::refused(!(settled & ((count < WHEEL) & pointed)), 1, room);
-    if refusal == 0 {
-        octets::put(buf, 0, 6, head_word(l, count, 0));
-        octets::put(buf, 6, 2, zone);
+    if !(settled & ((count < WHEEL) & pointed)) {
+        return REFUSED_SETTING;
     }
-    refusal
+    if buf.len() < ZONE_AT {
+        return REFUSED_ROOM;
+    }
+    octets::put(buf, 0, 6, head_word(l, count, 0));
+    octets::put(buf, 6, 2, zone);
+    0
 }
 
 // Writes both headers of the frame with this count and pointer at the front of buf; nothing, and the row's number, where it is refused.
@@ -223,7 +263,7 @@ pub fn write_head(s: Settings, count: u32, pointer: u16, buf: &mut [u8]) -> u8
     ensures { λ r. ⌜ r ≡ first (head-rows s count pointer (now (buf .entry))) ⌝ }
     ensures { λ r. ⌜ now (buf .exit) ≡ pick (eqb r 0) (over (now (buf .entry)) 0 (head s count pointer)) (now (buf .entry)) ⌝ }
 {
-    let pointed = (pointer < 2048) & !unused(s, pointer as u64);
+    let pointed = (pointer < POINTERS) & !unused(s, pointer as u64);
     let zone = octets::placed(0, POINTER, pointer as u64);
     write_headers(s.link, in_range(s), count, pointed, zone, buf)
 }

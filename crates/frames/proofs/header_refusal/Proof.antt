@@ -1,31 +1,76 @@
 -- `frames::header_refusal` meets its contract: each row is a test of the code.
 -- Assumes nothing.
+use mathlib.Core.Path.{_≡_, refl}
+use mathlib.Core.Bool.{true}
 use mir.Facts.{fits-32-64}
-use Rattle.octets.specs.Basics.{first}
-use Rattle.frames.specs.Link.{header-rows}
+use borrow.Author.Tests.{eq-eqb, ne-eqb}
+use lib.Dec.{eqb}
+use Rattle.octets.specs.Basics.{and, read, first}
+use Rattle.frames.specs.Link.{version-place, spacecraft-place, channel-place, spare-place, header-rows}
 use Rattle.frames.proofs.header_refusal.Statement.{statement}
 use Rattle.frames.proofs.header_refusal.Tie as tie
 
 returns : tie.Need-returns
 unfolding first header-rows
-returns c =
-    let at-field4 = c .before .before in
-    let at-refused = at-field4 .before .before in
-    let at-field2 = at-refused .before .before .before in
-    rw (c .refused4 .ensures, c .before .refused3 .ensures, at-field4 .before .refused2 .ensures, at-refused .refused .ensures, at-field4 .field4 .ensures, at-refused .before .field3 .ensures, at-field2 .field2 .ensures, at-field2 .before .before .field .ensures)
+returns c = rw (← c .before .field .ensures, ne-eqb _ _ (c .if1 .taken)) refl
+
+-- the rows, as they are tested
+version : (c : tie.Else1) → eqb (read version-place (c .before .before .args .head)) 1 ≡ true
+version c = rw (← c .before .field .ensures) (eq-eqb _ _ (c .if1 .left))
+
+module _ (c : tie.After-struct-known2) where
+  abbrev at-version : tie.Else1
+  at-version = c .before .before .before .before
+
+  abbrev start : tie.Start
+  start = at-version .before .before
+
+  channel : and (eqb (read spacecraft-place (start .args .head)) (start .args .l .spacecraft)) (eqb (read channel-place (start .args .head)) (start .args .l .channel))
+      ≡ and (eqb (c .before .before .before .field2 .result) (start .args .l .spacecraft)) (eqb (c .before .field3 .result) (start .args .l .channel))
+  channel = rw (← c .before .before .before .field2 .ensures, ← c .before .field3 .ensures) refl
+
+returns-2 : tie.Need-returns-2
+unfolding first header-rows
+returns-2 c = rw (version (at-version (c .before)), channel (c .before), c .if2 .taken) refl
+
+module _ (c : tie.After-field4) where
+  abbrev tested : tie.After-struct-known2
+  tested = c .before .before
+
+  clear : and (eqb (read spare-place (start tested .args .head)) 0) (eqb (start tested .args .spare) 0)
+      ≡ and (eqb (c .field4 .result) 0) (eqb (start tested .args .spare) 0)
+  clear = rw (← c .field4 .ensures) refl
+
+returns-3 : tie.Need-returns-3
+unfolding first header-rows
+returns-3 c =
+    let at = c .before in
+    rw (version (at-version (tested at)), channel (tested at), at .before .if2 .left, clear at, c .if3 .taken) refl
+
+returns-4 : tie.Need-returns-4
+unfolding first header-rows
+returns-4 c =
+    let at = c .before .before in
+    rw (version (at-version (tested at)), channel (tested at), at .before .if2 .left, clear at, c .before .if3 .left, c .if4 .taken) refl
+
+returns-5 : tie.Need-returns-5
+unfolding first header-rows
+returns-5 c =
+    let at = c .before .before in
+    rw (version (at-version (tested at)), channel (tested at), at .before .if2 .left, clear at, c .before .if3 .left, c .if4 .left) refl
 
 pub header-refusal-spec : {M : Type 1} → statement M
 header-refusal-spec =
     tie.close
     (tie.spec
     (λ c κs. tt)
+    returns
+    (λ c κs. tt)
     (λ c. fits-32-64 (c .struct-known .given .0))
     (λ c κs. tt)
     (λ c. fits-32-64 (c .struct-known2 .given .1 .0))
+    returns-2
     (λ c κs. tt)
-    (λ c κs. tt)
-    (λ c κs. tt)
-    (λ c κs. tt)
-    (λ c κs. tt)
-    (λ c κs. tt)
-    returns)
+    returns-3
+    returns-4
+    returns-5)

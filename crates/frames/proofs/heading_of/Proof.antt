@@ -11,7 +11,7 @@ use Rattle.frames.proofs.heading_of.Tie as tie
 
 returns : tie.Need-returns
 unfolding heading-of
-returns c = rw (ne-eqb _ _ (c .if1 .taken)) refl
+returns c = rw (c .refused .ensures, ne-eqb _ _ (c .before .if1 .taken)) refl
 
 cast-t7 : tie.Need-cast-t7
 cast-t7 c = record { fits = omega (arith, c .field .ensures, field-lt (c .before .before .args .head) 8 24) }
@@ -26,4 +26,4 @@ returns-2 c = rw (c .field2 .ensures, c .before .field .ensures, eq-eqb _ _ (c .
 pub heading-of-spec : {M : Type 1} → statement M
 heading-of-spec =
     tie.close
-    (tie.spec returns (λ c κs. search needs) cast-t7 (λ c κs. search needs) cast-t10 (λ c. search needs) returns-2)
+    (tie.spec (λ c κs. search needs) returns (λ c κs. search needs) cast-t7 (λ c κs. search needs) cast-t10 (λ c. search needs) returns-2)

@@ -1,44 +1,51 @@
--- `frames::read_head` meets its contract: both headers lie within a frame of the right length.
+-- `frames::read_head` meets its contract: a refusal by its row, and both headers lie within a frame of the right length.
 -- Assumes nothing.
-use mathlib.Core.Path.{sym, ap, ap₂, _∙_}
-use mathlib.Core.Bool.{not}
+use mathlib.Core.Path.{refl, sym, ap, ap₂, _∙_}
 use native.Mathlib.Omega.{arith}
 use mir.Facts.{fits-16-64}
-use Rattle.octets.specs.Basics.{pick, first}
+use borrow.Author.Tests.{not-false}
+use Rattle.octets.specs.Basics.{first}
 use Rattle.octets.proofs.Fields.{field-lt}
 use Rattle.frames.specs.Link.{header-rows}
-use Rattle.frames.specs.Frame.{in-range, frame-length, frame-rows, heading-rows, heading, zone-spare-place, pointer-place, unused}
+use Rattle.frames.specs.Frame.{in-range, frame-length, frame-rows, heading-rows, heading-of, heading, zone-spare-place, pointer-place, unused}
 use Rattle.frames.proofs.Headings.{heading-reads}
 use Rattle.frames.proofs.read_head.Statement.{statement}
 use Rattle.frames.proofs.read_head.Tie as tie
 
+returns : tie.Need-returns
+unfolding heading heading-rows heading-of first
+returns c = c .refused .ensures ∙ rw (← c .before .before .in-range .ensures, c .before .if1 .taken) refl
+
+returns-2 : tie.Need-returns-2
+unfolding heading heading-rows frame-rows heading-of first
+returns-2 c =
+    let at-length = c .before .before in
+    c .refused2 .ensures
+    ∙ rw (← at-length .before .before .in-range .ensures, at-length .before .if1 .left, ← at-length .has-length .ensures, c .before .if2 .taken) refl
+
 heading-of-requires : tie.Need-heading-of-requires
 heading-of-requires c κs =
-    let at-field = c .before .before .before .before .before .before in
+    let at-field = c .before .before .before in
     omega (arith, at-field .field .ensures, field-lt (at-field .before .number2 .result) 0 11)
 
-returns : tie.Need-returns
+returns-3 : tie.Need-returns-3
 unfolding heading heading-rows frame-rows frame-length
-returns c =
-    let at-refusal = c .before in
-    let at-length = at-refusal .before in
-    let at-range = at-length .before in
-    let at-unused = at-range .before .before in
+returns-3 c =
+    let at-unused = c .before .before in
     let at-field = at-unused .before .before in
     let at-number6 = at-field .before .before in
-    let a = at-number6 .before .before .args in
-    let head = at-number6 .number6 .result in
-    let long = at-length .has-length .result in
+    let at-if2 = at-number6 .before in
+    let at-if1 = at-if2 .before .before in
+    let a = at-if1 .before .before .before .args in
     rw (c .heading-of .ensures, at-field .field .ensures)
-    (heading-reads (a .s .link) zone-spare-place pointer-place (unused (a .s)) (a .frame .now) (frame-length (a .s)) (in-range (a .s)) long _ head _ (omega arith)
-    (sym (at-length .has-length .ensures))
+    (heading-reads (a .s .link) zone-spare-place pointer-place (unused (a .s)) (a .frame .now) (frame-length (a .s)) (omega arith)
+    (sym (at-if1 .before .in-range .ensures) ∙ not-false _ (at-if1 .if1 .left))
+    (sym (at-if2 .before .has-length .ensures) ∙ not-false _ (at-if2 .if2 .left))
     (at-number6 .number6 .ensures)
     (at-field .before .number2 .ensures)
-    (at-refusal .frame-refusal .ensures
-    ∙ ap₂ (λ settled below. pick (not settled) 1 (pick (not long) 3 below)) (at-range .in-range .ensures)
-    (at-range .before .header-refusal .ensures
-    ∙ ap₂ (λ spare t. first (header-rows (a .s .link) head spare t)) (at-unused .before .field2 .ensures)
-    (at-unused .unused .ensures ∙ ap (unused (a .s)) (at-field .field .ensures)))))
+    (c .before .header-refusal .ensures
+    ∙ ap₂ (λ spare t. first (header-rows (a .s .link) (at-number6 .number6 .result) spare t)) (at-unused .before .field2 .ensures)
+    (at-unused .unused .ensures ∙ ap (unused (a .s)) (at-field .field .ensures))))
 
 pub read-head-spec : {M : Type 1} → statement M
 read-head-spec =
@@ -46,13 +53,16 @@ read-head-spec =
     (tie.spec
     (λ c κs. tt)
     (λ c κs. tt)
+    returns
+    (λ c κs. tt)
+    (λ c κs. tt)
+    returns-2
+    (λ c κs. tt)
+    (λ c κs. tt)
     (λ c. fits-16-64 (record { fits = c .number2 .ok }))
     (λ c κs. tt)
     (λ c κs. tt)
     (λ c κs. tt)
     (λ c κs. tt)
-    (λ c κs. tt)
-    (λ c κs. tt)
-    (λ c κs. tt)
     heading-of-requires
-    returns)
+    returns-3)

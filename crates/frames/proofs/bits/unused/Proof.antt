@@ -1,10 +1,8 @@
 -- `frames::bits::unused` meets its contract: the quotient's test is the definition's.
 -- Assumes nothing.
-use mathlib.Core.Path.{ap}
-use mathlib.Core.Bool.{Bool}
-use Prim.Native.Nat.{ℕ, _+_, _-_, _*_, _/_}
+use mathlib.Core.Path.{ap₂}
+use Prim.Native.Nat.{ℕ, suc, _+_, _-_, _*_, _/_}
 use native.Mathlib.Omega.{arith}
-use lib.Dec.{leb}
 use borrow.Author.Needs.{needs}
 use Rattle.octets.specs.Basics.{and}
 use Rattle.octets.proofs.Choices.{leb-iff}
@@ -17,7 +15,8 @@ unfolding bit-unused
 returns c =
     let w : ℕ = c .args .s .width in
     let p : ℕ = c .args .pointer in
-    ap (λ (from : Bool). and from (leb p 16381)) (leb-iff w ((p + 1) / 8) (8 * w - 1) p (λ h. omega arith) (λ h. omega arith))
+    ap₂ and (leb-iff w ((p + 1) / 8) (8 * w - 1) p (λ h. omega arith) (λ h. omega arith))
+    (leb-iff (suc p) 16382 p 16381 (λ h. omega arith) (λ h. omega arith))
 
 pub unused-spec : {M : Type 1} → statement M
-unused-spec = tie.close (tie.spec (λ c. search needs) returns)
+unused-spec = tie.close (tie.spec (λ c. search needs) (λ c. search needs) returns)
