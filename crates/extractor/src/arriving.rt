@@ -27,12 +27,8 @@ fn lost_since(s: Settings, x: Extractor, count: u32) -> u32
     match x {
         Extractor::Fresh => 0,
         Extractor::Astray { last } => frames::missing(count, last),
-        Extractor::InStep { last, held: _ } => frames::missing(count, last),
-        Extractor::Walking {
-            last,
-            held: _,
-            at: _,
-        } => frames::missing(count, last),
+        Extractor::InStep { last, .. } => frames::missing(count, last),
+        Extractor::Walking { last, .. } => frames::missing(count, last),
         Extractor::Leaving { last } => frames::missing(count, last),
     }
 }
@@ -43,14 +39,10 @@ fn held_in(x: Extractor) -> usize
 {
     match x {
         Extractor::Fresh => 0,
-        Extractor::Astray { last: _ } => 0,
-        Extractor::InStep { last: _, held } => held,
-        Extractor::Walking {
-            last: _,
-            held,
-            at: _,
-        } => held,
-        Extractor::Leaving { last: _ } => 0,
+        Extractor::Astray { .. } => 0,
+        Extractor::InStep { held, .. } => held,
+        Extractor::Walking { held, .. } => held,
+        Extractor::Leaving { .. } => 0,
     }
 }
 
@@ -60,14 +52,10 @@ fn is_in_step(x: Extractor) -> bool
 {
     match x {
         Extractor::Fresh => false,
-        Extractor::Astray { last: _ } => false,
-        Extractor::InStep { last: _, held: _ } => true,
-        Extractor::Walking {
-            last: _,
-            held: _,
-            at: _,
-        } => true,
-        Extractor::Leaving { last: _ } => false,
+        Extractor::Astray { .. } => false,
+        Extractor::InStep { .. } => true,
+        Extractor::Walking { .. } => true,
+        Extractor::Leaving { .. } => false,
     }
 }
 
@@ -88,16 +76,10 @@ fn pointer_reason(s: Settings, held: usize, pointer: usize, store: &[u8], frame:
         return octets::refused((pointer == 0) | (pointer == IDLE_ZONE), 0, 2);
     }
     match look_on(s.limit, store, held, frame, ZONE_AT, ZONE_AT + s.zone) {
-        Header::Refused { refusal: _ } => 3,
+        Header::Refused { .. } => 3,
         Header::Damaged => 3,
         Header::More => octets::refused(pointer == NO_START, 0, 2),
-        Header::Whole {
-            kind: _,
-            key: _,
-            idle: _,
-            size: _,
-            total,
-        } => octets::refused(
+        Header::Whole { total, .. } => octets::refused(
             pointer == next_start(s.zone, octets::less(total, held)),
             0,
             2,

@@ -19,16 +19,10 @@ fn unfinished(n: usize, h: Header) -> bool
     ensures { λ r. ⌜ r ≡ unfinished n (says h) ⌝ }
 {
     match h {
-        Header::Refused { refusal: _ } => false,
+        Header::Refused { .. } => false,
         Header::More => true,
         Header::Damaged => false,
-        Header::Whole {
-            kind: _,
-            key: _,
-            idle: _,
-            size: _,
-            total,
-        } => n < total,
+        Header::Whole { total, .. } => n < total,
     }
 }
 
@@ -83,14 +77,10 @@ pub(crate) fn is_entered(x: Extractor) -> bool
 {
     match x {
         Extractor::Fresh => false,
-        Extractor::Astray { last: _ } => false,
-        Extractor::InStep { last: _, held: _ } => false,
-        Extractor::Walking {
-            last: _,
-            held: _,
-            at: _,
-        } => true,
-        Extractor::Leaving { last: _ } => true,
+        Extractor::Astray { .. } => false,
+        Extractor::InStep { .. } => false,
+        Extractor::Walking { .. } => true,
+        Extractor::Leaving { .. } => true,
     }
 }
 

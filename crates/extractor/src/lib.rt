@@ -143,13 +143,9 @@ pub fn show<'a>(frame: &'a [u8], store: &'a [u8], found: Found) -> &'a [u8]
     ensures { λ r. ⌜ now r ≡ shown (now (frame .entry)) (now (store .entry)) found ⌝ }
 {
     match found {
-        Found::InFrame {
-            start,
-            size,
-            idle: _,
-        } => part(frame, start, size),
-        Found::InStore { size, idle: _ } => part(store, 0, size),
-        Found::Refused { refusal: _ } => part(frame, 0, 0),
+        Found::InFrame { start, size, .. } => part(frame, start, size),
+        Found::InStore { size, .. } => part(store, 0, size),
+        Found::Refused { .. } => part(frame, 0, 0),
         Found::Damaged => part(frame, 0, 0),
         Found::Spent => part(frame, 0, 0),
     }

@@ -56,16 +56,10 @@ fn walk(s: Settings, last: u32, held: usize, at: usize, store: &mut [u8], frame:
     let from = ZONE_AT + at;
     let to = ZONE_AT + s.zone;
     match look_on(s.limit, store, held, frame, from, to) {
-        Header::Refused { refusal: _ } => abandoned(last),
+        Header::Refused { .. } => abandoned(last),
         Header::Damaged => abandoned(last),
         Header::More => keep(last, held, store, frame, from, to),
-        Header::Whole {
-            kind: _,
-            key: _,
-            idle,
-            size: _,
-            total,
-        } => {
+        Header::Whole { idle, total, .. } => {
             if held + (to - from) < total {
                 return keep(last, held, store, frame, from, to);
             }
@@ -96,11 +90,11 @@ pub(crate) fn moved(s: Settings, x: Extractor, store: &mut [u8], frame: &[u8]) -
             found: Found::Spent,
             next: x,
         },
-        Extractor::Astray { last: _ } => Move {
+        Extractor::Astray { .. } => Move {
             found: Found::Spent,
             next: x,
         },
-        Extractor::InStep { last: _, held: _ } => Move {
+        Extractor::InStep { .. } => Move {
             found: Found::Spent,
             next: x,
         },

@@ -158,12 +158,7 @@ pub fn unit_part<'a>(p: &'a [u8], u: Unwrapped) -> &'a [u8]
     ensures { λ r. ⌜ now r ≡ unit-part (now (p .entry)) u ⌝ }
 {
     match u {
-        Unwrapped::Refused { refusal: _ } => &p[0..0],
-        Unwrapped::Unit {
-            protocol: _,
-            extension: _,
-            start,
-            size,
-        } => run(p, start, size),
+        Unwrapped::Refused { .. } => &p[0..0],
+        Unwrapped::Unit { start, size, .. } => run(p, start, size),
     }
 }
