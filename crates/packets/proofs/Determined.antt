@@ -8,9 +8,11 @@ use Rattle.octets.specs.Basics.{pick}
 use Rattle.octets.proofs.Tests.{told-apart}
 use Rattle.packets.specs.declared.Kind.{Kind}
 use Rattle.packets.specs.declared.Header.{Header}
+use Rattle.packets.specs.declared.Seen.{Seen}
 use Rattle.packets.specs.declared.wrapping.Wrapped.{Wrapped}
 use Rattle.packets.specs.declared.wrapping.Unwrapped.{Unwrapped}
-use Rattle.packets.specs.Header.{Reading, answer, version-of}
+use Rattle.packets.specs.Packet.{Look, more, damaged, whole}
+use Rattle.packets.specs.Header.{Reading, answer, version-of, seen}
 use Rattle.packets.specs.Wrap.{Wrapping, wraps, Unwrapping, unwraps}
 
 header-back : Reading → Header
@@ -30,6 +32,20 @@ header-undo (Header.Whole Kind.Encapsulation key idle size total) = refl
 
 pub header-determined : {a b : Header} {x : Reading} → answer a ≡ x → answer b ≡ x → a ≡ b
 header-determined = told-apart answer header-back header-undo
+
+seen-back : Look → Seen
+seen-back more = Seen.More
+seen-back damaged = Seen.Damaged
+seen-back (whole total) = Seen.Whole total
+
+seen-undo : (r : Seen) → seen-back (seen r) ≡ r
+unfolding seen-back seen
+seen-undo Seen.More = refl
+seen-undo Seen.Damaged = refl
+seen-undo (Seen.Whole total) = refl
+
+pub seen-determined : {a b : Seen} {x : Look} → seen a ≡ x → seen b ≡ x → a ≡ b
+seen-determined = told-apart seen seen-back seen-undo
 
 wrapped-back : Wrapping → Wrapped
 wrapped-back w = pick (w .accepted) (Wrapped.Total (w .total)) (Wrapped.Refused (w .refusal))

@@ -8,10 +8,10 @@ use native.Mathlib.Omega.{arith}
 use lib.ListN.{length, take, drop, getD}
 use lib.Dec.{ltb, eqb}
 use borrow.Author.Tests.{lt-ltb, le-ltb, ltb-false, eq-eqb, ne-eqb, eqb-true}
-use Rattle.octets.specs.Basics.{number, number-at, part}
-use Rattle.octets.proofs.Choices.{split, apart, picked}
+use Rattle.octets.specs.Basics.{field, number, number-from, number-at, part}
+use Rattle.octets.proofs.Choices.{split, eqb-iff, apart, picked}
 use Rattle.octets.proofs.Numbers.{number-within}
-use Rattle.packets.specs.Packet.{more, damaged, whole, sized, counted, space, encapsulation, header-length, look, OfAKind, packet-version, protocol-of, length-of-length}
+use Rattle.packets.specs.Packet.{more, damaged, whole, sized, counted, space, encapsulation, header-length, look, apid, OfAKind, packet-version, protocol-of, length-of-length}
 use Rattle.packets.proofs.Sizes.{two-halves}
 
 -- where the header is not whole its numbers do not matter
@@ -83,3 +83,12 @@ look-kind limit (o ∷ os) {l} e =
   where
     six : space limit (o ∷ os) ≡ whole l → 6 ≤ length (o ∷ os)
     six q = picked (ltb (length (o ∷ os)) 6) _ _ q (λ t r. apart (cc)) (λ t r. ltb-false (length (o ∷ os)) 6 t)
+
+-- fewer than two octets of a space packet tell no APID, and none that is idle
+pub idle-apid : (os : List ℕ) → packet-version (getD os 0 0) ≡ 0 → eqb (field (number-at 2 0 os) 0 11) 2047 ≡ eqb (apid os) 2047
+unfolding number-at number number-from field
+idle-apid [] v = refl
+idle-apid (o ∷ []) v =
+    let w : packet-version o ≡ 0 = v in
+    eqb-iff 0 2047 (field (0 + o) 0 11) 2047 (λ e. absurd (omega arith)) (λ e. absurd (omega arith))
+idle-apid (o ∷ p ∷ os) v = ap (λ (n : ℕ). eqb (field n 0 11) 2047) (number-within 2 0 (o ∷ p ∷ os) (omega arith))

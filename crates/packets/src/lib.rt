@@ -3,7 +3,7 @@ ghost use mathlib.Core.Path.{_≡_};
 ghost use Prim.Native.Nat.{_/_, _≤_};
 ghost use lib.ListN.{length, getD};
 ghost use Rattle.octets.specs.Basics.{and, read, number-at};
-ghost use Rattle.packets.specs.Packet.{whole, limit-in-range, apid, OfAKind, packet-version, protocol-of, length-of-length, header-length, sized, counted, encapsulation, look, well-formed};
+ghost use Rattle.packets.specs.Packet.{whole, limit-in-range, apid, OfAKind, packet-version, protocol-of, length-of-length, header-length, sized, counted, encapsulation, look, is-idle, well-formed};
 ghost use Rattle.packets.specs.Header.{seen, told, reading, answer};
 use octets::Place;
 
@@ -28,6 +28,11 @@ const APID: Place = Place {
     below: 0,
     width: 11,
 };
+
+// The APID of an idle space packet, and the protocol of an idle encapsulation packet.
+const IDLE_APID: u64 = 2047;
+
+const IDLE_PROTOCOL: u8 = 0;
 
 // The extension, in the second octet of an encapsulation packet's header.
 const EXTENSION: Place = Place { below: 0, width: 4 };
@@ -59,7 +64,7 @@ pub enum Header {
 }
 
 // What the first octets of a packet say of its length.
-enum Seen {
+pub enum Seen {
     More,
     Damaged,
     Whole { total: usize },
@@ -134,7 +139,7 @@ fn encapsulation(limit: usize, protocol: u8, lol: u8, octets: &[u8]) -> Seen
         let total = total_of(stated(octets, lol));
         return counted(limit, octets.len(), header_length(lol), total);
     }
-    if protocol == 0 {
+    if protocol == IDLE_PROTOCOL {
         return Seen::Whole { total: 1 };
     }
     Seen::Damaged
@@ -174,8 +179,8 @@ fn apid(octets: &[u8]) -> u16
     octets::field(octets::number2(octets, 0) as u64, APID) as u16
 }
 
-// What the first octets of a packet say of its length, as many as there are.
-fn look_on(limit: usize, octets: &[u8]) -> Seen
+// What the first octets of a packet say of its length, as many as there are. No limit is refused.
+pub fn read_length(limit: usize, octets: &[u8]) -> Seen
     ensures { λ r. ⌜ seen r ≡ look limit (now (octets .entry)) ⌝ }
 {
     let len = octets.len();
@@ -192,26 +197,34 @@ fn look_on(limit: usize, octets: &[u8]) -> Seen
     Seen::Damaged
 }
 
+// Whether octets that begin a packet begin an idle one.
+pub fn is_idle(octets: &[u8]) -> bool
+    ensures { λ r. ⌜ r ≡ is-idle (now (octets .entry)) ⌝ }
+{
+    if version(octets) == 0 {
+        return octets::field(octets::number2(octets, 0) as u64, APID) == IDLE_APID;
+    }
+    protocol(octets) == IDLE_PROTOCOL
+}
+
 // What a whole header tells of its packet.
 fn tell(octets: &[u8], total: usize) -> Header
     requires { ⌜ OfAKind (now octets) ⌝ }
     ensures { λ r. ⌜ answer r ≡ told (now (octets .entry)) (whole total) ⌝ }
 {
     if version(octets) == 0 {
-        let key = apid(octets);
         return Header::Whole {
             kind: Kind::Space,
-            key,
-            idle: key == 2047,
+            key: apid(octets),
+            idle: is_idle(octets),
             size: 6,
             total,
         };
     }
-    let key = protocol(octets);
     Header::Whole {
         kind: Kind::Encapsulation,
-        key: key as u16,
-        idle: key == 0,
+        key: protocol(octets) as u16,
+        idle: is_idle(octets),
         size: header_length(length_of_length(octets)),
         total,
     }
@@ -224,7 +237,7 @@ pub fn read_header(limit: usize, octets: &[u8]) -> Header
     if !in_range(limit) {
         return Header::Refused { refusal: 1 };
     }
-    match look_on(limit, octets) {
+    match read_length(limit, octets) {
         Seen::More => Header::More,
         Seen::Damaged => Header::Damaged,
         Seen::Whole { total } => tell(octets, total),
@@ -235,7 +248,7 @@ pub fn read_header(limit: usize, octets: &[u8]) -> Header
 fn formed(limit: usize, p: &[u8]) -> bool
     ensures { λ r. ⌜ r ≡ well-formed limit (now (p .entry)) ⌝ }
 {
-    match look_on(limit, p) {
+    match read_length(limit, p) {
         Seen::More => false,
         Seen::Damaged => false,
         Seen::Whole { total } => total == p.len(),

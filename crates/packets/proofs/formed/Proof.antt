@@ -9,15 +9,15 @@ use Rattle.packets.proofs.formed.Tie as tie
 
 returns : tie.Need-returns
 unfolding well-formed states seen
-returns c = rw (← c .before .before .look-on .ensures, c .enum-told .given .1) refl
+returns c = rw (← c .before .before .read-length .ensures, c .enum-told .given .1) refl
 
 returns-2 : tie.Need-returns-2
 unfolding well-formed states seen
-returns-2 c = rw (← c .before .before .look-on .ensures, c .enum-told2 .given .1) refl
+returns-2 c = rw (← c .before .before .read-length .ensures, c .enum-told2 .given .1) refl
 
 returns-3 : tie.Need-returns-3
 unfolding well-formed states seen
-returns-3 c = rw (← c .before .before .before .look-on .ensures, c .before .total .given .1) refl
+returns-3 c = rw (← c .before .before .before .read-length .ensures, c .before .total .given .1) refl
 
 pub formed-spec : {M : Type 1} → statement M
 formed-spec =

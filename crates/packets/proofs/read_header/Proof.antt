@@ -25,23 +25,23 @@ unfolding seen
 tell-requires c κs =
     let at-look = c .before .before .before in
     let a = at-look .before .before .before .before .args in
-    let e : look (a .limit) (a .octets .now) ≡ whole _ = sym (at-look .look-on .ensures) ∙ ap seen (c .before .total .given .1) in
+    let e : look (a .limit) (a .octets .now) ≡ whole _ = sym (at-look .read-length .ensures) ∙ ap seen (c .before .total .given .1) in
     look-kind (a .limit) (a .octets .now) e
 
 returns-2 : tie.Need-returns-2
 unfolding answer reading told seen
-returns-2 c = rw (ranged (c .before .before .before), ← c .before .before .look-on .ensures, c .enum-told .given .1) refl
+returns-2 c = rw (ranged (c .before .before .before), ← c .before .before .read-length .ensures, c .enum-told .given .1) refl
 
 returns-3 : tie.Need-returns-3
 unfolding answer reading told seen
-returns-3 c = rw (ranged (c .before .before .before), ← c .before .before .look-on .ensures, c .enum-told2 .given .1) refl
+returns-3 c = rw (ranged (c .before .before .before), ← c .before .before .read-length .ensures, c .enum-told2 .given .1) refl
 
 returns-4 : tie.Need-returns-4
 unfolding reading seen
 returns-4 c =
     let at-total = c .before .before in
     let at-look = at-total .before .before in
-    rw (ranged (at-look .before), ← at-look .look-on .ensures, at-total .total .given .1) (c .tell .ensures)
+    rw (ranged (at-look .before), ← at-look .read-length .ensures, at-total .total .given .1) (c .tell .ensures)
 
 pub read-header-spec : {M : Type 1} → statement M
 read-header-spec =

@@ -1,4 +1,4 @@
--- `packets::look_on` meets its contract: at each return the tests on the way say which case of the definition holds.
+-- `packets::read_length` meets its contract: at each return the tests on the way say which case of the definition holds.
 -- Assumes nothing.
 use mathlib.Core.Path.{sym, ap, _∙_}
 use Prim.Native.Nat.{ℕ, _+_}
@@ -7,8 +7,8 @@ use Rattle.packets.specs.Packet.{counted, encapsulation, protocol-of}
 use Rattle.packets.specs.Header.{seen}
 use Rattle.packets.proofs.Looks.{look-none, look-space, look-encapsulation, look-other}
 use borrow.Author.Needs.{needs}
-use Rattle.packets.proofs.look_on.Statement.{statement}
-use Rattle.packets.proofs.look_on.Tie as tie
+use Rattle.packets.proofs.read_length.Statement.{statement}
+use Rattle.packets.proofs.read_length.Tie as tie
 
 returns : tie.Need-returns
 unfolding seen
@@ -45,8 +45,8 @@ returns-4 c =
     let v = at-version .version .ensures in
     sym (look-other (a .limit) (a .octets .now) (at-if1 .if1 .left) (λ e. c .before .if2 .left (v ∙ e)) (λ e. c .if3 .left (v ∙ e)))
 
-pub look-on-spec : {M : Type 1} → statement M
-look-on-spec =
+pub read-length-spec : {M : Type 1} → statement M
+read-length-spec =
     tie.close
     (tie.spec
     returns
