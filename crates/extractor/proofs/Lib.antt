@@ -8,8 +8,8 @@ pub mod Parts
 pub mod Passed
 pub mod Places
 pub mod Pointers
-pub mod Ranged
 pub mod Reaches
+pub mod Refused
 pub mod Settles
 pub mod Starts
 pub mod Steps

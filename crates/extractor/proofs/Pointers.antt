@@ -2,7 +2,6 @@
 -- Assumes nothing.
 use mathlib.Core.Path.{_≡_, refl, sym, ap, _∙_}
 use mathlib.Core.List.{List, [], _∷_, _++_}
-use mathlib.Core.Bool.{Bool}
 use Prim.Native.Nat.{ℕ, _-_, _≤_}
 use native.Mathlib.Omega.{arith}
 use lib.ListN.{length, take}
@@ -10,17 +9,14 @@ use lib.Seq.{length-take-le}
 use lib.Dec.{ltb, eqb}
 use Rattle.octets.specs.Basics.{pick, or}
 use Rattle.octets.proofs.Tests.{or-none}
-use Rattle.packets.specs.Packet.{damaged, look}
-use Rattle.packets.specs.Header.{says, answer, reading}
-use Rattle.packets.specs.declared.Kind.{Kind}
-use Rattle.packets.specs.declared.Header.{Header}
-use Rattle.packets.specs.declared.Header.the-variants.{More, Whole}
-use Rattle.packets.proofs.Readings.{says-look}
+use Rattle.packets.specs.Packet.{look}
+use Rattle.packets.specs.Header.{seen}
+use Rattle.packets.specs.declared.Seen.{Seen}
+use Rattle.packets.specs.declared.Seen.the-variants.{More, Damaged, Whole}
 use Rattle.frames.specs.Frame.{idle-zone, no-start, zone-of, pointer}
 use Rattle.frames.specs.declared.Settings.{Settings}
 use Rattle.extractor.specs.Extract.{in-step, agreed-look, agreed, reason-by, reason-in}
 use Rattle.extractor.specs.Walks.{Walks}
-use Rattle.extractor.proofs.Ranged.{limit-ranged}
 use Rattle.extractor.proofs.Steps.{left, zone-left}
 
 -- octets that are held agree by what they say with the zone's
@@ -38,29 +34,29 @@ module _ {s : Settings} {h : ℕ} {store f : List ℕ} (w : Walks s h 0 store f)
   unfolding reason-in reason-by agreed
   none-held n e none = rw (none, ← points, or-none (eqb p idle-zone)) e
 
-  module _ (some : h ≡ 0 → ⊥) (r : Header) (told : answer r ≡ reading (s .limit) (take h store ++ left s 0 f)) where
-    by-header : reason-by p (agreed-look s (take h store) (says r)) ≡ reason-in s (in-step (take h store)) f
+  module _ (some : h ≡ 0 → ⊥) (r : Seen) (told : seen r ≡ look (s .limit) (take h store ++ left s 0 f)) where
+    by-length : reason-by p (agreed-look s (take h store) (seen r)) ≡ reason-in s (in-step (take h store)) f
     unfolding reason-in
-    by-header =
+    by-length =
         let held : length (take h store) ≡ h = length-take-le h store (w .holds) in
         rw (
           points,
-          says-look (s .limit) (take h store ++ left s 0 f) r (limit-ranged s (w .ranged)) told,
+          told,
           ← zone-left s 0 f,
           agreed-some s (take h store) (zone-of s f) (omega arith),
         ) refl
 
     pub more-held : (n : ℕ) → n ≡ pick (eqb p no-start) 0 2 → r ≡ More → Right n
-    unfolding says agreed-look reason-by
-    more-held n e q = e ∙ sym (ap (λ (x : Header). reason-by p (agreed-look s (take h store) (says x))) q ∙ rw (or-none (eqb p no-start)) refl) ∙ by-header
+    unfolding seen agreed-look reason-by
+    more-held n e q = e ∙ sym (ap (λ (x : Seen). reason-by p (agreed-look s (take h store) (seen x))) q ∙ rw (or-none (eqb p no-start)) refl) ∙ by-length
 
-    pub damaged-held : says r ≡ damaged → Right 3
-    unfolding agreed-look reason-by
-    damaged-held q = sym (ap (λ x. reason-by p (agreed-look s (take h store) x)) q) ∙ by-header
+    pub damaged-held : r ≡ Damaged → Right 3
+    unfolding seen agreed-look reason-by
+    damaged-held q = sym (ap (λ (x : Seen). reason-by p (agreed-look s (take h store) (seen x))) q) ∙ by-length
 
-    pub whole-held : {kind : Kind} {key size l : ℕ} {idle : Bool} (n m end : ℕ) → n ≡ pick (eqb p m) 0 2
-        → m ≡ pick (ltb end (s .zone)) end no-start → end ≡ l - h → r ≡ Whole kind key idle size l → Right n
-    unfolding says agreed-look reason-by
+    pub whole-held : {l : ℕ} (n m end : ℕ) → n ≡ pick (eqb p m) 0 2
+        → m ≡ pick (ltb end (s .zone)) end no-start → end ≡ l - h → r ≡ Whole l → Right n
+    unfolding seen agreed-look reason-by
     whole-held n m end e t u q =
         let held : length (take h store) ≡ h = length-take-le h store (w .holds) in
-        e ∙ sym (ap (λ (x : Header). reason-by p (agreed-look s (take h store) (says x))) q ∙ rw (held, ← u, ← t, or-none (eqb p m)) refl) ∙ by-header
+        e ∙ sym (ap (λ (x : Seen). reason-by p (agreed-look s (take h store) (seen x))) q ∙ rw (held, ← u, ← t, or-none (eqb p m)) refl) ∙ by-length

@@ -1,24 +1,22 @@
 -- A step of a walk, case by case, with the zone's octets as they lie in the frame.
 -- Assumes nothing.
-use mathlib.Core.Path.{_≡_, refl, sym, ap, ap₂, _∙_}
+use mathlib.Core.Path.{_≡_, refl, sym, ap, ap₂, subst, _∙_}
 use mathlib.Core.List.{List, [], _∷_, _++_}
 use mathlib.Core.Bool.{Bool}
 use Prim.Native.Nat.{ℕ, zero, suc, _+_, _-_, _≤_, _<_}
 use native.Mathlib.Nat.{sub-zero, zero-sub, suc-sub-suc, add-sub-cancel-left}
 use native.Mathlib.Omega.{arith}
 use lib.ListN.{length, take, drop, length-append}
-use lib.Seq.{take-take, take-nil, drop-nil, drop-drop, length-take-le}
+use lib.Seq.{take-take, take-nil, take-append-add, drop-nil, drop-drop, length-take-le}
 use borrow.Author.Tests.{le-leb, lt-leb, eq-eqb, ne-eqb}
 use Rattle.octets.specs.Basics.{over, laid-part}
-use Rattle.octets.proofs.Written.{length-run, part-within}
-use Rattle.packets.specs.Packet.{damaged, whole, look, is-idle}
-use Rattle.packets.specs.Header.{says, answer, reading}
-use Rattle.packets.specs.declared.Kind.{Kind}
-use Rattle.packets.specs.declared.Header.{Header}
-use Rattle.packets.specs.declared.Header.the-variants.{More, Whole}
+use Rattle.octets.proofs.Written.{length-run, part-within, over-take}
+use Rattle.packets.specs.Packet.{whole, look, is-idle}
+use Rattle.packets.specs.Header.{seen}
+use Rattle.packets.specs.declared.Seen.{Seen}
+use Rattle.packets.specs.declared.Seen.the-variants.{More, Whole}
 use Rattle.packets.proofs.Grown.{look-bounds}
-use Rattle.packets.proofs.Begun.{more-short, idle-take, whole-idle}
-use Rattle.packets.proofs.Readings.{says-look}
+use Rattle.packets.proofs.Begun.{more-short, idle-begun}
 use Rattle.frames.specs.Frame.{zone-of, frame-length}
 use Rattle.frames.specs.declared.Settings.{Settings}
 use Rattle.frames.proofs.Settled.{settled}
@@ -26,7 +24,6 @@ use Rattle.extractor.specs.Records.{step, step-look, handed-over, steps-
 use Rattle.extractor.specs.Walks.{Walks}
 use Rattle.extractor.specs.declared.Extractor.the-variants.{Walking, Leaving}
 use Rattle.extractor.specs.declared.Found.the-variants.{InFrame, InStore, Damaged}
-use Rattle.extractor.proofs.Ranged.{limit-ranged}
 
 drop-take : (a n : ℕ) (l : List ℕ) → drop a (take n l) ≡ take (n - a) (drop a l)
 drop-take zero n l = ap (λ (k : ℕ). take k l) (sym (sub-zero n))
@@ -73,33 +70,30 @@ module _ {s : Settings} {h at : ℕ} {store f : List ℕ} (w : Walks s h at stor
   some-room : 1 ≤ s .limit
   some-room = omega (arith, plain w)
 
-  module _ (r : Header) (told : answer r ≡ reading (s .limit) both) where
-    seen : says r ≡ look (s .limit) both
-    seen = says-look (s .limit) both r (limit-ranged s (w .ranged)) told
-
-    at-look : step s f store (Walking last h at) ≡ step-look s store last h at (left s at f) (says r)
+  module _ (r : Seen) (told : seen r ≡ look (s .limit) both) where
+    at-look : step s f store (Walking last h at) ≡ step-look s store last h at (left s at f) (seen r)
     unfolding step
-    at-look = rw (seen, zone-left s at f) refl
+    at-look = rw (told, zone-left s at f) refl
 
     pub step-more : r ≡ More → kept-for-later store last h (left s at f) ≡ step s f store (Walking last h at)
-    unfolding says step-look
-    step-more q = sym (at-look ∙ ap (λ (x : Header). step-look s store last h at (left s at f) (says x)) q)
+    unfolding seen step-look
+    step-more q = sym (at-look ∙ ap (λ (x : Seen). step-look s store last h at (left s at f) (seen x)) q)
 
-    pub step-damaged : says r ≡ damaged → steps-to Damaged (Leaving last) store ≡ step s f store (Walking last h at)
-    unfolding step-look
-    step-damaged q = sym (at-look ∙ ap (step-look s store last h at (left s at f)) q)
+    pub step-damaged : r ≡ Seen.Damaged → steps-to Damaged (Leaving last) store ≡ step s f store (Walking last h at)
+    unfolding seen step-look
+    step-damaged q = sym (at-look ∙ ap (λ (x : Seen). step-look s store last h at (left s at f) (seen x)) q)
 
     pub more-room : r ≡ More → h + (8 + s .zone - (8 + at)) ≤ length store
-    unfolding says
-    more-room q = omega (arith, more-short (s .limit) both some-room (sym seen ∙ ap says q), length-both, plain w)
+    unfolding seen
+    more-room q = omega (arith, more-short (s .limit) both some-room (sym told ∙ ap seen q), length-both, plain w)
 
-    module _ {kind : Kind} {key size l : ℕ} {idle : Bool} (q : r ≡ Whole kind key idle size l) where
-      its-length : says r ≡ whole l
-      unfolding says
-      its-length = ap says q
+    module _ {l : ℕ} (q : r ≡ Whole l) where
+      its-length : seen r ≡ whole l
+      unfolding seen
+      its-length = ap seen q
 
       pub whole-limit : l ≤ s .limit
-      whole-limit = look-bounds (s .limit) both some-room (sym seen ∙ its-length) .1
+      whole-limit = look-bounds (s .limit) both some-room (sym told ∙ its-length) .1
 
       pub step-later : h + (8 + s .zone - (8 + at)) < l → kept-for-later store last h (left s at f) ≡ step s f store (Walking last h at)
       unfolding step-look
@@ -114,24 +108,25 @@ module _ {s : Settings} {h at : ℕ} {store f : List ℕ} (w : Walks s h at stor
             sym (at-look ∙ ap (step-look s store last h at (left s at f)) its-length
             ∙ rw (le-leb l (h + length (left s at f)) (omega (arith, length-left))) refl)
 
-        its-mark : idle ≡ is-idle (take l both)
-        its-mark =
-            whole-idle (s .limit) both kind key idle size l (limit-ranged s (w .ranged)) (sym (ap answer q) ∙ told)
-            ∙ sym (idle-take (s .limit) both some-room (sym seen ∙ its-length) (omega (arith, length-both)))
+        -- octets that begin with the packet are idle as it is
+        its-mark : (ys : List ℕ) → take l ys ≡ take l both → is-idle ys ≡ is-idle (take l both)
+        its-mark ys same = idle-begun (s .limit) both ys some-room (sym told ∙ its-length) (omega (arith, length-both)) same
 
         -- a packet that lies in the frame
-        pub step-frame : (n : ℕ) → h ≡ 0 → n ≡ l - h
+        pub step-frame : (n : ℕ) (idle : Bool) → h ≡ 0 → n ≡ l - h → idle ≡ is-idle (left s at f)
             → steps-to (InFrame (8 + at) l idle) (Walking last 0 (at + n)) store ≡ step s f store (Walking last h at)
         unfolding handed-over
-        step-frame n none m =
+        step-frame n idle none m i =
             let all : n ≡ l = omega arith in
-            rw (its-mark, all) (rw (eq-eqb h 0 none) at handed)
+            let alone : left s at f ≡ both = rw none refl in
+            let mark : idle ≡ is-idle (take l both) = i ∙ its-mark (left s at f) (ap (take l) alone) in
+            rw (mark, all) (rw (eq-eqb h 0 none) at handed)
 
         -- a packet whose last octets are laid after those held
-        pub step-laid : (n : ℕ) (st : List ℕ) → (h ≡ 0 → ⊥) → n ≡ l - h → st ≡ laid-part store h (8 + at) (8 + at + n) f
+        pub step-laid : (n : ℕ) (st : List ℕ) (idle : Bool) → (h ≡ 0 → ⊥) → n ≡ l - h → st ≡ laid-part store h (8 + at) (8 + at + n) f → idle ≡ is-idle st
             → steps-to (InStore l idle) (Walking last 0 (at + n)) st ≡ step s f store (Walking last h at)
         unfolding handed-over
-        step-laid n st some m v =
+        step-laid n st idle some m v i =
             let rest : ℕ = 8 + s .zone - (8 + at) in
             let cut : take (l - h) (left s at f) ≡ take (l - h) (drop (8 + at) f) = take-take (l - h) rest (drop (8 + at) f) (omega arith) in
             let written : st ≡ over store h (take (l - h) (left s at f)) =
@@ -142,4 +137,20 @@ module _ {s : Settings} {h at : ℕ} {store f : List ℕ} (w : Walks s h at stor
               part-within store h (8 + at) (8 + at + (l - h)) f (omega arith) (omega (arith, plain w)) (omega (arith, whole-limit, plain w)),
               add-sub-cancel-left (8 + at) (l - h),
             ) refl in
-            rw (its-mark, m, written) (rw (ne-eqb h 0 some) at handed)
+            let mark : idle ≡ is-idle (take l both) = i ∙ its-mark st (ap (take l) written ∙ packet-laid) in
+            rw (mark, m, written) (rw (ne-eqb h 0 some) at handed)
+          where
+            held : length (take h store) ≡ h
+            held = length-take-le h store (w .holds)
+
+            added : length (take (l - h) (left s at f)) ≡ l - h
+            added = length-take-le (l - h) (left s at f) (omega (arith, length-left))
+
+            -- the store then begins with the packet
+            packet-laid : take l (over store h (take (l - h) (left s at f))) ≡ take l both
+            packet-laid =
+                let os : List ℕ = over store h (take (l - h) (left s at f)) in
+                let front : take (h + (l - h)) os ≡ take (h + (l - h)) both =
+                subst (λ (n : ℕ). take (h + n) os ≡ take h store ++ take (l - h) (left s at f)) added (over-take store h (take (l - h) (left s at f)) (w .holds))
+                ∙ sym (subst (λ (n : ℕ). take (n + (l - h)) both ≡ take h store ++ take (l - h) (left s at f)) held (take-append-add (take h store) (left s at f) (l - h))) in
+                sym (take-take l (h + (l - h)) os (omega arith)) ∙ ap (take l) front ∙ take-take l (h + (l - h)) both (omega arith)

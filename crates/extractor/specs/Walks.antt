@@ -7,6 +7,23 @@ use lib.ListN.{length}
 use Rattle.frames.specs.Frame.{in-range, frame-length, pointer, heading}
 use Rattle.frames.specs.declared.Settings.{Settings}
 use Rattle.frames.specs.declared.Heading.{Heading}
+use Rattle.extractor.specs.declared.Extractor.{Extractor}
+use Rattle.extractor.specs.declared.Extractor.the-variants.{Fresh, Astray, InStep, Walking, Leaving}
+
+-- the numbers of a record, 0 where it has none: the count of its last frame, and how far its zone is walked
+abbrev pub last-in : Extractor → ℕ
+last-in Fresh = 0
+last-in (Astray last) = last
+last-in (InStep last h) = last
+last-in (Walking last h at) = last
+last-in (Leaving last) = last
+
+abbrev pub at-in : Extractor → ℕ
+at-in Fresh = 0
+at-in (Astray last) = 0
+at-in (InStep last h) = 0
+at-in (Walking last h at) = at
+at-in (Leaving last) = 0
 
 -- a walk of a zone
 pub record Walks (s : Settings) (h at : ℕ) (store f : List ℕ) : Type 0 where

@@ -12,13 +12,14 @@ use crate::Entered;
 use crate::Entering;
 use crate::Entry;
 use crate::Extractor;
-use crate::held::look_on;
+use crate::held::held_in;
+use crate::held::length_across;
 use frames::Heading;
 use frames::IDLE_ZONE;
 use frames::NO_START;
 use frames::Settings;
 use frames::ZONE_AT;
-use packets::Header;
+use packets::Seen;
 
 // How many frames are missing before the count.
 fn lost_since(s: Settings, x: Extractor, count: u32) -> u32
@@ -30,19 +31,6 @@ fn lost_since(s: Settings, x: Extractor, count: u32) -> u32
         Extractor::InStep { last, .. } => frames::missing(count, last),
         Extractor::Walking { last, .. } => frames::missing(count, last),
         Extractor::Leaving { last } => frames::missing(count, last),
-    }
-}
-
-// How many octets are held.
-fn held_in(x: Extractor) -> usize
-    ensures { λ r. ⌜ r ≡ held-in x ⌝ }
-{
-    match x {
-        Extractor::Fresh => 0,
-        Extractor::Astray { .. } => 0,
-        Extractor::InStep { held, .. } => held,
-        Extractor::Walking { held, .. } => held,
-        Extractor::Leaving { .. } => 0,
     }
 }
 
@@ -66,6 +54,13 @@ fn next_start(zone: usize, end: usize) -> usize
     if end < zone { end } else { NO_START }
 }
 
+// Why the octets held are dropped, by whether the pointer agrees with them: 0 where it does, else 2.
+fn compared(agrees: bool) -> u8
+    ensures { λ r. ⌜ r ≡ pick agrees 0 2 ⌝ }
+{
+    if agrees { 0 } else { 2 }
+}
+
 // Why the octets held are dropped, by the frame's pointer: 3 where their header is damaged, else 2 or, where the pointer agrees, 0.
 fn pointer_reason(s: Settings, held: usize, pointer: usize, store: &[u8], frame: &[u8]) -> u8
     requires { ⌜ Walks s held 0 (now store) (now frame) ⌝ }
@@ -73,17 +68,12 @@ fn pointer_reason(s: Settings, held: usize, pointer: usize, store: &[u8], frame:
     ensures { λ r. ⌜ r ≡ reason-in s (in-step (take held (now (store .entry)))) (now (frame .entry)) ⌝ }
 {
     if held == 0 {
-        return octets::refused((pointer == 0) | (pointer == IDLE_ZONE), 0, 2);
+        return compared((pointer == 0) | (pointer == IDLE_ZONE));
     }
-    match look_on(s.limit, store, held, frame, ZONE_AT, ZONE_AT + s.zone) {
-        Header::Refused { .. } => 3,
-        Header::Damaged => 3,
-        Header::More => octets::refused(pointer == NO_START, 0, 2),
-        Header::Whole { total, .. } => octets::refused(
-            pointer == next_start(s.zone, octets::less(total, held)),
-            0,
-            2,
-        ),
+    match length_across(s.limit, store, held, frame, ZONE_AT, ZONE_AT + s.zone) {
+        Seen::Damaged => 3,
+        Seen::More => compared(pointer == NO_START),
+        Seen::Whole { total } => compared(pointer == next_start(s.zone, octets::less(total, held))),
     }
 }
 

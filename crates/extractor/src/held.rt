@@ -1,34 +1,74 @@
 // The record and the octets held: whether the rules can reach them, and what they say with those that follow.
 ghost use mathlib.Core.Path.{_≡_};
 ghost use Prim.Native.Nat.{_-_, _≤_};
-ghost use mathlib.Core.List.{_++_};
+ghost use mathlib.Core.List.{[], _∷_, _++_};
 ghost use mathlib.Core.Bool.{true, not};
 ghost use lib.ListN.{length, take, drop};
 ghost use lib.Dec.{ltb};
-ghost use Rattle.octets.specs.Basics.{pick};
-ghost use Rattle.packets.specs.Header.{says, reading, answer};
+ghost use Rattle.octets.specs.Basics.{first, row};
+ghost use Rattle.packets.specs.Packet.{look};
+ghost use Rattle.packets.specs.Header.{seen};
 ghost use Rattle.frames.specs.Frame.{in-range};
-ghost use Rattle.extractor.specs.Records.{unfinished, holds-well, reachable, is-entered};
+ghost use Rattle.extractor.specs.Records.{unfinished, holds-well, reachable, is-entered, held-in};
+ghost use Rattle.extractor.specs.Walks.{last-in, at-in};
 use crate::Extractor;
 use frames::Settings;
 use frames::WHEEL;
-use packets::Header;
+use packets::Seen;
 
-// Whether n octets whose header says this begin a packet that is longer than they are.
-fn unfinished(n: usize, h: Header) -> bool
-    ensures { λ r. ⌜ r ≡ unfinished n (says h) ⌝ }
+// A header has so many octets at most.
+const MOST_HEADER: usize = 8;
+
+// The numbers of a record, 0 where it has none: the count of its last frame, how many octets are held, and how far the zone is walked.
+fn last_in(x: Extractor) -> u32
+    ensures { λ r. ⌜ r ≡ last-in x ⌝ }
 {
-    match h {
-        Header::Refused { .. } => false,
-        Header::More => true,
-        Header::Damaged => false,
-        Header::Whole { total, .. } => n < total,
+    match x {
+        Extractor::Fresh => 0,
+        Extractor::Astray { last } => last,
+        Extractor::InStep { last, .. } => last,
+        Extractor::Walking { last, .. } => last,
+        Extractor::Leaving { last } => last,
+    }
+}
+
+pub(crate) fn held_in(x: Extractor) -> usize
+    ensures { λ r. ⌜ r ≡ held-in x ⌝ }
+{
+    match x {
+        Extractor::Fresh => 0,
+        Extractor::Astray { .. } => 0,
+        Extractor::InStep { held, .. } => held,
+        Extractor::Walking { held, .. } => held,
+        Extractor::Leaving { .. } => 0,
+    }
+}
+
+fn at_in(x: Extractor) -> usize
+    ensures { λ r. ⌜ r ≡ at-in x ⌝ }
+{
+    match x {
+        Extractor::Fresh => 0,
+        Extractor::Astray { .. } => 0,
+        Extractor::InStep { .. } => 0,
+        Extractor::Walking { at, .. } => at,
+        Extractor::Leaving { .. } => 0,
+    }
+}
+
+// Whether n octets that say this of their packet's length are fewer than it has.
+fn unfinished(n: usize, length: Seen) -> bool
+    ensures { λ r. ⌜ r ≡ unfinished n (seen length) ⌝ }
+{
+    match length {
+        Seen::More => true,
+        Seen::Damaged => false,
+        Seen::Whole { total } => n < total,
     }
 }
 
 // Whether the first octets of the store are such, or none are held. No more than their header is read.
 fn holds_well(s: Settings, store: &[u8], held: usize) -> bool
-    requires { ⌜ in-range s ≡ true ⌝ }
     ensures { λ r. ⌜ r ≡ holds-well s (now (store .entry)) held ⌝ }
 {
     if held == 0 {
@@ -37,38 +77,35 @@ fn holds_well(s: Settings, store: &[u8], held: usize) -> bool
     if store.len() < held {
         return false;
     }
-    unfinished(held, packets::read_header(s.limit, &store[..held]))
+    unfinished(held, packets::read_length(s.limit, &store[..held]))
 }
 
 // Whether the rules can reach the record with this store.
 fn reachable(s: Settings, store: &[u8], x: Extractor) -> bool
-    requires { ⌜ in-range s ≡ true ⌝ }
     ensures { λ r. ⌜ r ≡ reachable s (now (store .entry)) x ⌝ }
 {
-    match x {
-        Extractor::Fresh => true,
-        Extractor::Astray { last } => last < WHEEL,
-        Extractor::InStep { last, held } => (last < WHEEL) & holds_well(s, store, held),
-        Extractor::Walking { last, held, at } => {
-            if held == 0 {
-                (last < WHEEL) & (at <= s.zone)
-            } else {
-                (last < WHEEL) & ((at == 0) & holds_well(s, store, held))
-            }
-        }
-        Extractor::Leaving { last } => last < WHEEL,
+    let held = held_in(x);
+    let at = at_in(x);
+    if WHEEL <= last_in(x) {
+        return false;
     }
+    if held == 0 {
+        return at <= s.zone;
+    }
+    (at == 0) & holds_well(s, store, held)
 }
 
-// What settings, store and record are refused for; else what is refused below them.
-pub(crate) fn refusal(s: Settings, x: Extractor, store: &[u8], below: u8) -> u8
-    ensures { λ r. ⌜ r ≡ pick (not (in-range s)) 1 (pick (ltb (length (now (store .entry))) (s .limit)) 2 (pick (not (reachable s (now (store .entry)) x)) 10 below)) ⌝ }
+// What store and record are refused for; 0 where they are not.
+pub(crate) fn refusal(s: Settings, x: Extractor, store: &[u8]) -> u8
+    ensures { λ r. ⌜ r ≡ first (row 2 (ltb (length (now (store .entry))) (s .limit)) ∷ row 10 (not (reachable s (now (store .entry)) x)) ∷ []) ⌝ }
 {
-    if !frames::in_range(s) {
-        return 1;
+    if store.len() < s.limit {
+        return 2;
     }
-    let record = octets::refused(!reachable(s, store, x), 10, below);
-    octets::refused(store.len() < s.limit, 2, record)
+    if !reachable(s, store, x) {
+        return 10;
+    }
+    0
 }
 
 // Whether a frame is entered and not yet spent.
@@ -90,42 +127,44 @@ struct Start {
     n: usize,
 }
 
-// Puts them together.
+// Puts them together, where fewer are held.
 fn start_of(store: &[u8], held: usize, frame: &[u8], from: usize, to: usize) -> Start
-    requires { ⌜ held ≤ length (now store) ⌝ }
+    requires { ⌜ (held ≤ 8) × (held ≤ length (now store)) ⌝ }
     requires { ⌜ (from ≤ to) × (to ≤ length (now frame)) ⌝ }
     ensures { λ r. ⌜ take (r .n) (r .octets) ≡ take 8 (take held (now (store .entry)) ++ take (to - from) (drop from (now (frame .entry)))) ⌝ }
     ensures { λ r. ⌜ r .n ≤ 8 ⌝ }
 {
-    let kept = octets::least(held, 8);
-    let more = octets::least(to - from, octets::less(8, kept));
+    let more = octets::least(to - from, MOST_HEADER - held);
     let mut octets = [0u8; 8];
-    octets::lay(&mut octets, 0, store, 0, kept);
-    octets::lay(&mut octets, kept, frame, from, from + more);
+    octets::lay(&mut octets, 0, store, 0, held);
+    octets::lay(&mut octets, held, frame, from, from + more);
     Start {
         octets,
-        n: kept + more,
+        n: held + more,
     }
 }
 
-// What the octets held and those of the frame from `from` up to `to` tell of the packet that they begin.
-pub(crate) fn look_on(
+// What the octets held and those of the frame from `from` up to `to` say of the length of the packet that they begin.
+pub(crate) fn length_across(
     limit: usize,
     store: &[u8],
     held: usize,
     frame: &[u8],
     from: usize,
     to: usize,
-) -> Header
-    requires { ⌜ held ≤ length (now store) ⌝ }
+) -> Seen
+    requires { ⌜ (1 ≤ limit) × (held ≤ length (now store)) ⌝ }
     requires { ⌜ (from ≤ to) × (to ≤ length (now frame)) ⌝ }
-    ensures { λ r. ⌜ answer r ≡ reading limit (take held (now (store .entry)) ++ take (to - from) (drop from (now (frame .entry)))) ⌝ }
+    ensures { λ r. ⌜ seen r ≡ look limit (take held (now (store .entry)) ++ take (to - from) (drop from (now (frame .entry)))) ⌝ }
 {
     if held == 0 {
-        return packets::read_header(limit, &frame[from..to]);
+        return packets::read_length(limit, &frame[from..to]);
+    }
+    if MOST_HEADER <= held {
+        return packets::read_length(limit, &store[..held]);
     }
     let start = start_of(store, held, frame, from, to);
     let octets = start.octets;
     let n = start.n;
-    packets::read_header(limit, &octets[..n])
+    packets::read_length(limit, &octets[..n])
 }

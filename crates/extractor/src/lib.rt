@@ -1,8 +1,10 @@
 // The extractor: frames in, packets out, call by call.
 ghost use mathlib.Core.Path.{_≡_};
-ghost use mathlib.Core.List.{[]};
+ghost use Prim.Native.Nat.{ℕ};
+ghost use mathlib.Core.List.{List, []};
 ghost use Rattle.octets.specs.Basics.{first};
-ghost use Rattle.extractor.specs.Records.{checked, step-rows, part-of, shown};
+ghost use Rattle.frames.specs.Frame.{heading-rows};
+ghost use Rattle.extractor.specs.Records.{checked, enter-rows, step-rows, part-of, shown};
 ghost use Rattle.extractor.specs.Answers.{enter-says, enter-answer, step-says, step-answer};
 use frames::Settings;
 
@@ -81,7 +83,27 @@ pub struct Move {
 pub fn record_refusal(s: Settings, x: Extractor, store: &[u8]) -> u8
     ensures { λ r. ⌜ r ≡ first (checked s x (now (store .entry)) []) ⌝ }
 {
-    held::refusal(s, x, store, 0)
+    if !frames::in_range(s) {
+        return 1;
+    }
+    held::refusal(s, x, store)
+}
+
+// What entering is refused for, by what the frame's header is: settings out of range are its first refusal.
+fn enter_refusal(s: Settings, x: Extractor, store: &[u8], head: u8) -> u8
+    ensures { λ r. ⌜ ((f : List ℕ) → head ≡ first (heading-rows s f) → r ≡ first (enter-rows s x (now (store .entry)) f)) ⌝ }
+{
+    if head == 1 {
+        return 1;
+    }
+    let of_record = held::refusal(s, x, store);
+    if of_record != 0 {
+        return of_record;
+    }
+    if held::is_entered(x) {
+        return 9;
+    }
+    head
 }
 
 // Enters a frame: tells what was lost before it, compares its pointer, and sets out on its zone. The store is only read.
@@ -89,8 +111,7 @@ pub fn enter(s: Settings, x: Extractor, store: &[u8], frame: &[u8]) -> Entering
     ensures { λ r. ⌜ enter-says r ≡ enter-answer s x (now (store .entry)) (now (frame .entry)) ⌝ }
 {
     let heading = frames::read_head(s, frame);
-    let moment = octets::refused(held::is_entered(x), 9, heading.refusal);
-    let refusal = held::refusal(s, x, store, moment);
+    let refusal = enter_refusal(s, x, store, heading.refusal);
     if refusal != 0 {
         return Entering {
             entered: Entered::Refused { refusal },
@@ -104,9 +125,17 @@ pub fn enter(s: Settings, x: Extractor, store: &[u8], frame: &[u8]) -> Entering
 fn step_refusal(s: Settings, x: Extractor, store: &[u8], frame: &[u8]) -> u8
     ensures { λ r. ⌜ r ≡ first (step-rows s x (now (store .entry)) (now (frame .entry))) ⌝ }
 {
-    let length = octets::refused(!frames::has_length(s, frame.len()), 3, 0);
-    let moment = octets::refused(!held::is_entered(x), 9, length);
-    held::refusal(s, x, store, moment)
+    let of_record = record_refusal(s, x, store);
+    if of_record != 0 {
+        return of_record;
+    }
+    if !held::is_entered(x) {
+        return 9;
+    }
+    if !frames::has_length(s, frame.len()) {
+        return 3;
+    }
+    0
 }
 
 // One step of the walk of a frame that is entered: the next packet, damage, or that the frame is spent.

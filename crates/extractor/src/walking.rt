@@ -9,10 +9,10 @@ ghost use Rattle.extractor.specs.Walks.{Walks};
 use crate::Extractor;
 use crate::Found;
 use crate::Move;
-use crate::held::look_on;
+use crate::held::length_across;
 use frames::Settings;
 use frames::ZONE_AT;
-use packets::Header;
+use packets::Seen;
 
 // The frame's octets from `from` up to `to` join those held.
 fn keep(last: u32, held: usize, store: &mut [u8], frame: &[u8], from: usize, to: usize) -> Move
@@ -55,11 +55,10 @@ fn walk(s: Settings, last: u32, held: usize, at: usize, store: &mut [u8], frame:
 {
     let from = ZONE_AT + at;
     let to = ZONE_AT + s.zone;
-    match look_on(s.limit, store, held, frame, from, to) {
-        Header::Refused { .. } => abandoned(last),
-        Header::Damaged => abandoned(last),
-        Header::More => keep(last, held, store, frame, from, to),
-        Header::Whole { idle, total, .. } => {
+    match length_across(s.limit, store, held, frame, from, to) {
+        Seen::Damaged => abandoned(last),
+        Seen::More => keep(last, held, store, frame, from, to),
+        Seen::Whole { total } => {
             if held + (to - from) < total {
                 return keep(last, held, store, frame, from, to);
             }
@@ -69,12 +68,15 @@ fn walk(s: Settings, last: u32, held: usize, at: usize, store: &mut [u8], frame:
                 let found = Found::InFrame {
                     start: from,
                     size: total,
-                    idle,
+                    idle: packets::is_idle(&frame[from..to]),
                 };
                 return Move { found, next };
             }
             octets::lay(store, held, frame, from, from + rest);
-            let found = Found::InStore { size: total, idle };
+            let found = Found::InStore {
+                size: total,
+                idle: packets::is_idle(store),
+            };
             Move { found, next }
         }
     }

@@ -1,21 +1,15 @@
 -- Octets that begin a packet: what is said of them, and of them with more behind.
 -- Assumes nothing.
-use mathlib.Core.Path.{_≡_, refl, sym, ap, subst, _∙_}
+use mathlib.Core.Path.{_≡_, sym, ap, subst, _∙_}
 use mathlib.Core.Logic.{_⊎_, inl, inr}
 use mathlib.Core.List.{List, [], _∷_, _++_}
-use mathlib.Core.Bool.{Bool, true}
 use Prim.Native.Nat.{ℕ, _≤_, _<_}
 use native.Mathlib.Omega.{arith}
 use lib.ListN.{length, take, drop, take-append-drop}
-use lib.Seq.{length-take-le}
-use lib.Dec.{leb}
-use borrow.Author.Tests.{leb-true}
-use Rattle.octets.proofs.Choices.{apart, and-true}
-use Rattle.octets.proofs.Tests.{test}
-use Rattle.packets.specs.Packet.{Look, more, damaged, whole, look, limit-in-range, is-idle}
-use Rattle.packets.specs.Header.{told, reading, answer}
-use Rattle.packets.specs.declared.Kind.{Kind}
-use Rattle.packets.specs.declared.Header.the-variants.{Whole}
+use lib.Seq.{length-take-le, take-append-le}
+use Rattle.octets.proofs.Choices.{apart}
+use Rattle.packets.specs.Packet.{Look, more, damaged, whole, look, is-idle}
+use Rattle.packets.specs.Header.{told}
 use Rattle.packets.proofs.Grown.{Bounded, look-bounded, look-grown, look-take, look-front}
 use Rattle.packets.proofs.Readings.{told-append}
 
@@ -41,38 +35,18 @@ damaged-append limit xs ys room e = go (look-grown limit xs ys room .settled)
     go (inl m) = cc
     go (inr q) = q ∙ e
 
--- a packet and the octets that it begins are idle alike
-pub idle-take : (limit : ℕ) (os : List ℕ) {l : ℕ} → 1 ≤ limit → look limit os ≡ whole l → l ≤ length os → is-idle (take l os) ≡ is-idle os
+-- a packet and all octets that begin with it are idle alike
+pub idle-begun : (limit : ℕ) (os ys : List ℕ) {l : ℕ} → 1 ≤ limit → look limit os ≡ whole l → l ≤ length os → take l ys ≡ take l os
+    → is-idle ys ≡ is-idle (take l os)
 unfolding told
-idle-take limit os {l} room e fits =
+idle-begun limit os ys {l} room e fits same =
     let formed : look limit (take l os) ≡ whole l = look-take limit l os room e fits ∙ ap whole (length-take-le l os fits) in
-    sym (ap (λ r. r .idle) (told-append limit (take l os) (drop l os) formed)) ∙ ap is-idle (take-append-drop l os)
+    sym (ap is-idle (ap (λ (xs : List ℕ). xs ++ drop l ys) (sym same) ∙ take-append-drop l ys))
+    ∙ ap (λ r. r .idle) (told-append limit (take l os) (drop l ys) formed)
 
--- ---- the header reader needs eight octets at most
+-- ---- a header has eight octets at most
 
-ranged-limit : (limit : ℕ) → limit-in-range limit ≡ true → 1 ≤ limit
-unfolding limit-in-range
-ranged-limit limit e = omega (arith, leb-true 7 limit (and-true (leb 7 limit) (leb limit 65542) e .0))
-
-pub reading-front : (limit : ℕ) (os : List ℕ) → reading limit (take 8 os) ≡ reading limit os
-unfolding reading told
-reading-front limit os = test (limit-in-range limit) (λ t. rw t (go (ranged-limit limit t) (look limit os) refl)) (λ t. rw t refl)
-  where
-    go : 1 ≤ limit → (seen : Look) → look limit os ≡ seen → told (take 8 os) (look limit (take 8 os)) ≡ told os (look limit os)
-    go room more e = rw (look-front limit os room, e) refl
-    go room damaged e = rw (look-front limit os room, e) refl
-    go room (whole l) e =
-        let front : look limit (take 8 os) ≡ whole l = look-front limit os room ∙ e in
-        rw (front, e)
-        (sym (told-append limit (take 8 os) (drop 8 os) front) ∙ ap (λ (xs : List ℕ). told xs (whole l)) (take-append-drop 8 os))
-
--- an answer that a header is whole tells whether the packet is idle
-pub whole-idle : (limit : ℕ) (os : List ℕ) (kind : Kind) (key : ℕ) (idle : Bool) (size total : ℕ) → limit-in-range limit ≡ true
-    → answer (Whole kind key idle size total) ≡ reading limit os → idle ≡ is-idle os
-unfolding answer reading told
-whole-idle limit os kind key idle size total h e = go (look limit os) (rw h at e)
-  where
-    go : (seen : Look) → answer (Whole kind key idle size total) ≡ told os seen → idle ≡ is-idle os
-    go more q = absurd (omega (arith, ap (λ r. r .outcome) q))
-    go damaged q = absurd (omega (arith, ap (λ r. r .outcome) q))
-    go (whole l) q = ap (λ r. r .idle) q
+-- octets behind the first eight change nothing of what they say of the length
+pub look-eight : (limit : ℕ) (os ys : List ℕ) → 1 ≤ limit → 8 ≤ length os → look limit os ≡ look limit (os ++ ys)
+look-eight limit os ys room h =
+    sym (look-front limit os room) ∙ ap (look limit) (sym (take-append-le 8 os ys h)) ∙ look-front limit (os ++ ys) room

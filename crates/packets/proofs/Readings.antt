@@ -1,6 +1,6 @@
--- What an answer of the header reader says, and what well-formed says.
+-- What well-formed says, and what a whole header tells.
 -- Assumes nothing.
-use mathlib.Core.Path.{_≡_, refl, sym, ap, _∙_}
+use mathlib.Core.Path.{_≡_, refl, ap, _∙_}
 use mathlib.Core.Logic.{_⊎_, ⊎-elim}
 use mathlib.Core.List.{List, [], _∷_, _++_}
 use mathlib.Core.Bool.{true}
@@ -8,43 +8,11 @@ use Prim.Native.Nat.{ℕ, _≤_}
 use native.Mathlib.Omega.{arith}
 use lib.ListN.{length, take}
 use lib.Seq.{take-append-le}
-use lib.Dec.{eqb}
 use borrow.Author.Tests.{eqb-true, eq-eqb}
-use Rattle.octets.specs.Basics.{pick}
 use Rattle.octets.proofs.Choices.{apart}
-use Rattle.packets.specs.Packet.{Look, more, damaged, whole, look, limit-in-range, WellFormed, states, well-formed, packet-version, key-of, is-idle, size-of}
-use Rattle.packets.specs.Header.{Reading, told, reading, answer, says}
-use Rattle.packets.specs.declared.Header.{Header}
-use Rattle.packets.specs.declared.Header.the-variants.{Refused, More, Damaged, Whole}
+use Rattle.packets.specs.Packet.{Look, more, damaged, whole, look, WellFormed, states, well-formed, packet-version, key-of, is-idle, size-of}
+use Rattle.packets.specs.Header.{told}
 use Rattle.packets.proofs.Looks.{look-kind}
-
--- ---- an answer and the rule
-
--- the length, from the numbers of an answer
-length-told : Reading → Look
-length-told r = pick (eqb (r .outcome) 1) more (pick (eqb (r .outcome) 3) (whole (r .total)) damaged)
-
-of-answer : (r : Header) → length-told (answer r) ≡ says r
-unfolding length-told answer says
-of-answer (Refused n) = refl
-of-answer More = refl
-of-answer Damaged = refl
-of-answer (Whole kind key idle size total) = refl
-
-of-told : (os : List ℕ) (a : Look) → length-told (told os a) ≡ a
-unfolding length-told told
-of-told os more = refl
-of-told os damaged = refl
-of-told os (whole l) = refl
-
-module _ (limit : ℕ) (os : List ℕ) (r : Header) (ranged : limit-in-range limit ≡ true) (e : answer r ≡ reading limit os) where
-  looked : answer r ≡ told os (look limit os)
-  unfolding reading
-  looked = e ∙ rw ranged refl
-
-  -- what an answer says of the length is what the octets say
-  pub says-look : says r ≡ look limit os
-  says-look = sym (of-answer r) ∙ ap length-told looked ∙ of-told os (look limit os)
 
 -- ---- the test and the statement
 

@@ -74,14 +74,7 @@ answer (Whole kind key idle size total) = record {
   total = total;
 }
 
--- what an answer says of the packet's length; a refusal counts as damage
-unfoldable pub says : Header → Look
-says (Refused refusal) = damaged
-says More = more
-says Damaged = damaged
-says (Whole kind key idle size total) = whole total
-
--- the same of what is seen before anything else is told
+-- what an answer of the length alone says
 unfoldable pub seen : Seen → Look
 seen Seen.More = more
 seen Seen.Damaged = damaged

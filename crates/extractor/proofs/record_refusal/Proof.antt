@@ -1,5 +1,6 @@
--- `record_refusal` meets its contract: the table with no row below.
+-- `record_refusal` meets its contract: the row of the settings, and those below.
 -- Assumes nothing.
+use mathlib.Core.Path.{refl}
 use Rattle.octets.specs.Basics.{first}
 use borrow.Author.Needs.{needs}
 use Rattle.extractor.proofs.record_refusal.Statement.{statement}
@@ -7,7 +8,11 @@ use Rattle.extractor.proofs.record_refusal.Tie as tie
 
 returns : tie.Need-returns
 unfolding first
-returns c = c .refusal .ensures
+returns c = rw (← c .before .in-range .ensures, c .if1 .taken) refl
+
+returns-2 : tie.Need-returns-2
+unfolding first
+returns-2 c = rw (← c .before .before .in-range .ensures, c .before .if1 .left) (c .refusal .ensures)
 
 pub record-refusal-spec : {M : Type 1} → statement M
-record-refusal-spec = tie.close (tie.spec (λ c κs. search needs) returns)
+record-refusal-spec = tie.close (tie.spec (λ c κs. search needs) returns (λ c κs. search needs) returns-2)

@@ -1,12 +1,9 @@
 -- `held::holds_well` meets its contract: at each return the tests on the way say which case of the definition holds.
 -- Assumes nothing.
 use mathlib.Core.Path.{sym, ap, _∙_}
-use lib.ListN.{take}
 use lib.Seq.{length-take-le}
 use borrow.Author.Tests.{eq-eqb, ne-eqb, lt-leb, le-leb}
-use Rattle.packets.proofs.Readings.{says-look}
 use Rattle.extractor.specs.Records.{unfinished, holds-well}
-use Rattle.extractor.proofs.Ranged.{limit-ranged}
 use borrow.Author.Needs.{needs}
 use Rattle.extractor.proofs.held.holds_well.Statement.{statement}
 use Rattle.extractor.proofs.held.holds_well.Tie as tie
@@ -19,18 +16,15 @@ returns-2 : tie.Need-returns-2
 unfolding holds-well
 returns-2 c = simp (ne-eqb _ _ (c .before .if1 .left), lt-leb _ _ (c .if2 .taken))
 
-slice-aggregate-read-header : tie.Need-slice-aggregate-read-header
-slice-aggregate-read-header c = sym (length-take-le _ _ (c .before .if2 .left))
+slice-aggregate-read-length : tie.Need-slice-aggregate-read-length
+slice-aggregate-read-length c = sym (length-take-le _ _ (c .before .if2 .left))
 
 returns-3 : tie.Need-returns-3
 unfolding holds-well
 returns-3 c =
     let a = c .before .before .before .before .before .before .args in
-    let read = c .before .read-header in
     simp (ne-eqb _ _ (c .before .before .before .before .if1 .left), le-leb _ _ (c .before .before .before .if2 .left))
-    (c .unfinished .ensures
-    ∙ ap (unfinished (a .held))
-    (says-look (a .s .limit) (take (a .held) (a .store .now)) (read .result) (limit-ranged (a .s) (c .before .before .before .before .before .before .pre)) (read .ensures)))
+    (c .unfinished .ensures ∙ ap (unfinished (a .held)) (c .before .read-length .ensures))
 
 pub holds-well-spec : {M : Type 1} → statement M
 holds-well-spec =
@@ -38,7 +32,7 @@ holds-well-spec =
     (tie.spec
     returns
     returns-2
-    slice-aggregate-read-header
+    slice-aggregate-read-length
     (λ c κs. search needs)
     (λ c κs. search needs)
     returns-3)

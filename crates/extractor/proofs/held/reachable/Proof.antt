@@ -1,50 +1,55 @@
--- `held::reachable` meets its contract, case by case.
+-- `held::reachable` meets its contract: the same tests of the record's numbers.
 -- Assumes nothing.
-use borrow.Author.Tests.{eq-eqb, ne-eqb}
-use Rattle.frames.specs.Link.{count-width}
-use Rattle.extractor.specs.Records.{reachable}
+use mathlib.Core.Path.{refl, sym, ap, _∙_}
+use borrow.Author.Tests.{eq-eqb, ne-eqb, lt-ltb, le-ltb}
+use Rattle.extractor.proofs.Refused.{reached-by}
 use borrow.Author.Needs.{needs}
 use Rattle.extractor.proofs.held.reachable.Statement.{statement}
 use Rattle.extractor.proofs.held.reachable.Tie as tie
 
 returns : tie.Need-returns
-unfolding reachable count-width
-returns c = rw (c .enum-told .given .1)
+returns c =
+    let a = c .before .before .before .before .before .args in
+    rw (reached-by (a .s) (a .store .now) (a .x), ← c .before .last-in .ensures, le-ltb _ _ (c .if1 .taken)) refl
 
 returns-2 : tie.Need-returns-2
-unfolding reachable count-width
-returns-2 c = rw (c .before .x .given .1)
+returns-2 c =
+    let at-last = c .before .before .before in
+    let at-at = at-last .before in
+    let a = at-at .before .before .before .args in
+    rw (
+      reached-by (a .s) (a .store .now) (a .x),
+      ← at-last .last-in .ensures,
+      lt-ltb _ _ (c .before .before .if1 .left),
+      ← at-at .before .held-in .ensures,
+      eq-eqb _ _ (c .before .if2 .taken),
+      at-at .at-in .ensures,
+    ) refl
 
 returns-3 : tie.Need-returns-3
-unfolding reachable count-width
-returns-3 c = rw (c .before .before .x2 .given .1, c .holds-well .ensures)
-
-returns-4 : tie.Need-returns-4
-unfolding reachable count-width
-returns-4 c = rw (c .before .before .before .x3 .given .1, eq-eqb _ _ (c .before .if1 .taken))
-
-returns-5 : tie.Need-returns-5
-unfolding reachable count-width
-returns-5 c = rw (c .before .before .before .x3 .given .1, ne-eqb _ _ (c .before .if1 .left), c .holds-well2 .ensures)
-
-returns-6 : tie.Need-returns-6
-unfolding reachable count-width
-returns-6 c = rw (c .before .x4 .given .1)
+returns-3 c =
+    let at-if1 = c .before .before in
+    let at-last = at-if1 .before in
+    let at-at = at-last .before in
+    let a = at-at .before .before .before .args in
+    rw (
+      reached-by (a .s) (a .store .now) (a .x),
+      ← at-last .last-in .ensures,
+      lt-ltb _ _ (at-if1 .if1 .left),
+      ← at-at .before .held-in .ensures,
+      ne-eqb _ _ (c .before .if2 .left),
+      ← at-at .at-in .ensures,
+      c .holds-well .ensures,
+    ) refl
 
 pub reachable-spec : {M : Type 1} → statement M
 reachable-spec =
     tie.close
     (tie.spec
-    (λ c. search needs)
-    (λ c. search needs)
-    (λ c. search needs)
     (λ c κs. search needs)
-    (λ c. search needs)
     (λ c κs. search needs)
-    (λ c. search needs)
+    (λ c κs. search needs)
     returns
     returns-2
-    returns-3
-    returns-4
-    returns-5
-    returns-6)
+    (λ c κs. search needs)
+    returns-3)

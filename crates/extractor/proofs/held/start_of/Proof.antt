@@ -9,11 +9,10 @@ use Rattle.extractor.proofs.held.start_of.Tie as tie
 
 returns : tie.Need-returns
 returns c =
-    let at-least = c .before .before .before .before .before .before .before .before in
-    let a = at-least .before .before .before .args in
-    let at-least2 = c .before .before .before .before .before .before in (
-      started _ (a .store .now) (a .frame .now) _ _ (a .held) (a .from) (a .to) (at-least .least .result) (at-least2 .least2 .result)
-          refl (omega arith) (omega arith) (omega arith) (at-least .least .ensures) (omega arith)
+    let at-least = c .before .before .before .before .before .before in
+    let a = at-least .before .before .before .args in (
+      started _ (a .store .now) (a .frame .now) _ _ (a .held) (a .from) (a .to) (a .held) (at-least .least .result)
+          refl (omega arith) (omega arith) (omega arith) (omega arith) (omega arith)
           (c .before .before .before .before .lay .ensures .left) (c .before .lay2 .ensures .left),
       omega arith,
     )
@@ -22,9 +21,8 @@ pub start-of-spec : {M : Type 1} → statement M
 start-of-spec =
     tie.close
     (tie.spec
-    (λ c κs. search needs)
     (λ c. search needs)
-    (λ c κs. search needs)
+    (λ c. search needs)
     (λ c κs. search needs)
     (λ c. search needs)
     (λ c κs. search needs)

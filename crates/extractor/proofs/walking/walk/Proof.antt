@@ -1,15 +1,14 @@
 -- `walking::walk` meets its contract: at each return the tests on the way say which case of the definition holds.
 -- Assumes nothing.
-use mathlib.Core.Path.{_∙_, ap}
+use mathlib.Core.Path.{_∙_}
 use native.Mathlib.Omega.{arith}
-use Rattle.packets.specs.Header.{says}
 use Rattle.extractor.proofs.Steps.{plain, step-more, step-damaged, step-later, step-frame, step-laid, more-room, whole-limit}
 use borrow.Author.Needs.{needs}
 use Rattle.extractor.proofs.walking.walk.Statement.{statement}
 use Rattle.extractor.proofs.walking.walk.Tie as tie
 
--- the place where the function is entered, from the one where the header is read
-abbrev start : tie.After-look-on → tie.Start
+-- the place where the function is entered, from the one where the length is read
+abbrev start : tie.After-length-across → tie.Start
 start c = c .before .before .before .before .before
 
 add-from : tie.Need-add-from
@@ -18,16 +17,16 @@ add-from c = record { fits = omega (arith, plain (c .before .before .pre)) }
 add-to : tie.Need-add-to
 add-to c = record { fits = omega (arith, plain (c .before .before .before .pre)) }
 
-look-on-requires : tie.Need-look-on-requires
-look-on-requires c κs =
+length-across-requires : tie.Need-length-across-requires
+length-across-requires c κs =
     let p = plain (c .before .before .before .before .pre) in
-    ((omega (arith, p)), (omega (arith, p), omega (arith, p)))
+    ((omega (arith, p), omega (arith, p)), (omega (arith, p), omega (arith, p)))
 
 keep-requires : tie.Need-keep-requires
 keep-requires c κs =
     let at-look = c .before .before .before in
     let p = plain (start at-look .pre) in
-    let r = more-room (start at-look .pre) (start at-look .args .last) _ (at-look .look-on .ensures) (c .before .enum-told3 .given .1) in
+    let r = more-room (start at-look .pre) (start at-look .args .last) _ (at-look .length-across .ensures) (c .before .enum-told2 .given .1) in
     ((omega (arith, p), omega (arith, p)), r)
 
 add-if1 : tie.Need-add-if1
@@ -39,24 +38,30 @@ keep-requires-2 : tie.Need-keep-requires-2
 keep-requires-2 c κs =
     let at-look = c .before .before .before .before .before in
     let p = plain (start at-look .pre) in
-    let r = whole-limit (start at-look .pre) (start at-look .args .last) _ (at-look .look-on .ensures) (c .before .before .before .idle .given .1) in
+    let r = whole-limit (start at-look .pre) (start at-look .args .last) _ (at-look .length-across .ensures) (c .before .before .before .total .given .1) in
     ((omega (arith, p), omega (arith, p)), omega (arith, p, r, c .before .if1 .taken))
 
 returns : tie.Need-returns
 returns c =
     let at-look = c .before .before .before .before .before .before .before .before in
     c .before .before .keep2 .ensures
-    ∙ step-later (start at-look .pre) (start at-look .args .last) _ (at-look .look-on .ensures)
-    (c .before .before .before .before .before .before .idle .given .1) (c .before .before .before .before .if1 .taken)
+    ∙ step-later (start at-look .pre) (start at-look .args .last) _ (at-look .length-across .ensures)
+    (c .before .before .before .before .before .before .total .given .1) (c .before .before .before .before .if1 .taken)
+
+part-is-idle-end : tie.Need-part-is-idle-end
+part-is-idle-end c =
+    let at-look = c .before .before .before .before .before .before .before in
+    omega (arith, plain (start at-look .pre))
 
 returns-2 : tie.Need-returns-2
 returns-2 c =
-    let at-less = c .before .before in
-    let at-idle = at-less .before .before .before in
-    let at-look = at-idle .before .before in
-    rw (c .before .onward .ensures)
-    (step-frame (start at-look .pre) (start at-look .args .last) _ (at-look .look-on .ensures) (at-idle .idle .given .1)
-    (at-less .before .if1 .left) _ (c .if2 .taken) (at-less .less .ensures))
+    let at-if2 = c .before .before in
+    let at-less = at-if2 .before .before in
+    let at-total = at-less .before .before .before in
+    let at-look = at-total .before .before in
+    rw (at-if2 .before .onward .ensures)
+    (step-frame (start at-look .pre) (start at-look .args .last) _ (at-look .length-across .ensures) (at-total .total .given .1)
+    (at-less .before .if1 .left) _ _ (at-if2 .if2 .taken) (at-less .less .ensures) (c .is-idle .ensures))
 
 add-lay : tie.Need-add-lay
 add-lay c =
@@ -66,34 +71,27 @@ add-lay c =
     record { fits = omega (arith, p, at-less .less .ensures, at-less .before .if1 .left) }
 
 returns-3 : tie.Need-returns-3
-unfolding says
 returns-3 c =
     let at-look = c .before .before .before in
     rw (c .abandoned .ensures .0, c .abandoned .ensures .1)
-    (step-damaged (start at-look .pre) (start at-look .args .last) _ (at-look .look-on .ensures) (ap says (c .before .enum-told .given .1)))
+    (step-damaged (start at-look .pre) (start at-look .args .last) _ (at-look .length-across .ensures) (c .before .enum-told .given .1))
 
 returns-4 : tie.Need-returns-4
-unfolding says
 returns-4 c =
-    let at-look = c .before .before .before in
-    rw (c .abandoned2 .ensures .0, c .abandoned2 .ensures .1)
-    (step-damaged (start at-look .pre) (start at-look .args .last) _ (at-look .look-on .ensures) (ap says (c .before .enum-told2 .given .1)))
+    let at-look = c .before .before .before .before .before .before in
+    c .before .before .keep .ensures
+    ∙ step-more (start at-look .pre) (start at-look .args .last) _ (at-look .length-across .ensures) (c .before .before .before .before .enum-told2 .given .1)
 
 returns-5 : tie.Need-returns-5
 returns-5 c =
-    let at-look = c .before .before .before .before .before .before in
-    c .before .before .keep .ensures
-    ∙ step-more (start at-look .pre) (start at-look .args .last) _ (at-look .look-on .ensures) (c .before .before .before .before .enum-told3 .given .1)
-
-returns-6 : tie.Need-returns-6
-returns-6 c =
-    let at-if2 = c .before .before .before .before in
+    let at-lay = c .before .before .before .before in
+    let at-if2 = at-lay .before .before in
     let at-less = at-if2 .before .before in
-    let at-idle = at-less .before .before .before in
-    let at-look = at-idle .before .before in
+    let at-total = at-less .before .before .before in
+    let at-look = at-total .before .before in
     rw (at-if2 .before .onward .ensures)
-    (step-laid (start at-look .pre) (start at-look .args .last) _ (at-look .look-on .ensures) (at-idle .idle .given .1)
-    (at-less .before .if1 .left) _ _ (at-if2 .if2 .left) (at-less .less .ensures) (c .before .before .lay .ensures .left))
+    (step-laid (start at-look .pre) (start at-look .args .last) _ (at-look .length-across .ensures) (at-total .total .given .1)
+    (at-less .before .if1 .left) _ _ _ (at-if2 .if2 .left) (at-less .less .ensures) (at-lay .lay .ensures .left) (c .is-idle2 .ensures))
 
 pub walk-spec : {M : Type 1} → statement M
 walk-spec =
@@ -101,9 +99,7 @@ walk-spec =
     (tie.spec
     add-from
     add-to
-    look-on-requires
-    (λ c. search needs)
-    (λ c κs. search needs)
+    length-across-requires
     (λ c. search needs)
     (λ c κs. search needs)
     (λ c. search needs)
@@ -118,14 +114,17 @@ walk-spec =
     (λ c. search needs)
     (λ c κs. search needs)
     (λ c. search needs)
+    (λ c. search needs)
+    part-is-idle-end
+    (λ c κs. search needs)
+    (λ c. search needs)
     returns-2
     add-lay
+    (λ c κs. search needs)
     (λ c κs. search needs)
     (λ c. search needs)
     returns-3
     (λ c. search needs)
     returns-4
     (λ c. search needs)
-    returns-5
-    (λ c. search needs)
-    returns-6)
+    returns-5)
