@@ -13,7 +13,7 @@ use Rattle.packets.specs.Header.{bare}
 use Rattle.packets.specs.Header as header
 use Rattle.packets.specs.Wrap.{wrapped, wrapped-total, wrapping, wraps, unwrap-rows, unwrapping, unwraps, unit-part}
 use Rattle.packets.specs.declared.wrapping.Wrapped.{Wrapped}
-use Rattle.packets.proofs.Determined.{header-determined, wrapped-determined, unwrapped-determined}
+use Rattle.packets.proofs.Determined.{header-determined, seen-determined, wrapped-determined, unwrapped-determined}
 use Rattle.demands.specs.Promises.{Left}
 use Rattle.demands.specs.calls.Packets.{OfPackets}
 use Rattle.demands.proofs.Promised.{by-rows, promised, left-same, exactly, writes}
@@ -58,5 +58,7 @@ of-packets = record {
       promised header.answer (λ a. a .refusal) (row 1 (not (limit-in-range limit)) ∷ []) (header.told os (look limit os)) (λ n. bare n 0)
       (reading-by-row limit os) (told-unrefused os (look limit os)) (λ n. refl)
       (record { free = tt; gives = λ o m. m; one = λ o o′ p q. header-determined p q });
+  read-length = λ κs limit os. record { free = tt; gives = λ o m. m; one = λ o o′ p q. seen-determined p q };
+  is-idle = λ κs os. exactly;
   well-formed = λ κs limit p. exactly;
 }

@@ -7,12 +7,13 @@ use lib.ListN.{length}
 use contract.Lifetimes.{Lfts}
 use denote.Ref.{now, at-last}
 use Rattle.octets.specs.Basics.{and, over, row}
-use Rattle.packets.specs.Packet.{limit-in-range, well-formed}
-use Rattle.packets.specs.Header.{bare, reading}
+use Rattle.packets.specs.Packet.{limit-in-range, look, is-idle, well-formed}
+use Rattle.packets.specs.Header.{bare, reading, seen}
 use Rattle.packets.specs.Header as header
 use Rattle.packets.specs.Idle.{idle-packet, idle-packet-rows}
 use Rattle.packets.specs.Wrap.{wrapped-total, wrap-rows, wrapping, wraps, unwrap-rows, unwrapping, unwraps, unit-part}
 use Rattle.packets.specs.declared.Header.{Header}
+use Rattle.packets.specs.declared.Seen.{Seen}
 use Rattle.packets.specs.declared.wrapping.Wrapped.{Wrapped}
 use Rattle.packets.specs.declared.wrapping.Unwrapped.{Unwrapped}
 use Rattle.packets.proofs.wrap.Reads as wrap-fn
@@ -20,19 +21,26 @@ use Rattle.packets.proofs.unwrap.Reads as unwrap-fn
 use Rattle.packets.proofs.unit_part.Reads as unit-part-fn
 use Rattle.packets.proofs.write_idle.Reads as write-idle-fn
 use Rattle.packets.proofs.read_header.Reads as read-header-fn
+use Rattle.packets.proofs.read_length.Reads as read-length-fn
+use Rattle.packets.proofs.is_idle.Reads as is-idle-fn
 use Rattle.packets.proofs.well_formed.Reads as well-formed-fn
-use Rattle.demands.specs.Promises.{Slice, Left, Contract, as-read, Is, Promised, Writes}
+use Rattle.demands.specs.Promises.{Slice, Left, Contract, as-read, Gives, Is, Promised, Writes}
 
 abbrev pub wrap-contract : (κs : Lfts 2) (limit protocol extension : ℕ) (unit out : Slice) → Contract (Left Wrapped)
 wrap-contract κs limit protocol extension unit out =
     as-read (wrap-fn.Pre κs (limit, (protocol, (extension, (unit, (out, tt))))))
     (λ o. wrap-fn.Post κs (limit, (protocol, (extension, (unit, (out, tt))))) (o .answer) (limit, (protocol, (extension, (unit, (at-last out (o .lent), tt))))))
 
--- the header reader, well-formed, wrapping, the idle packet, and unwrapping with the part that is handed back, empty where it is refused
+-- the header reader, the length and the idle mark alone, well-formed, wrapping, the idle packet, and unwrapping with the part that is handed back, empty where it is refused
 pub record OfPackets : Type 0 where
   pub read-header : (κs : Lfts 1) (limit : ℕ) (os : Slice)
       → Promised (as-read (read-header-fn.Pre κs (limit, (os, tt))) (λ (r : Header). read-header-fn.Post κs (limit, (os, tt)) r (limit, (os, tt))))
       (reading limit (now os)) (row 1 (not (limit-in-range limit)) ∷ []) header.answer (λ a. a .refusal) (λ n. bare n 0)
+  pub read-length : (κs : Lfts 1) (limit : ℕ) (os : Slice)
+      → Gives (as-read (read-length-fn.Pre κs (limit, (os, tt))) (λ (r : Seen). read-length-fn.Post κs (limit, (os, tt)) r (limit, (os, tt))))
+      seen (look limit (now os))
+  pub is-idle : (κs : Lfts 1) (os : Slice)
+      → Is (as-read (is-idle-fn.Pre κs (os, tt)) (λ r. is-idle-fn.Post κs (os, tt) r (os, tt))) (is-idle (now os))
   pub well-formed : (κs : Lfts 1) (limit : ℕ) (p : Slice)
       → Is (as-read (well-formed-fn.Pre κs (limit, (p, tt))) (λ r. well-formed-fn.Post κs (limit, (p, tt)) r (limit, (p, tt))))
       (and (limit-in-range limit) (well-formed limit (now p)))
