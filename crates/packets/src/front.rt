@@ -61,14 +61,26 @@ fn idle_lol(r: usize) -> u8
     if r <= 255 { 1 } else { 2 }
 }
 
+// The first refusal that holds, for r octets and the room there is; 0 where none does.
+fn idle_refusal(r: usize, room: usize) -> u8
+    ensures { λ n. ⌜ n ≡ first (idle-packet-rows r room) ⌝ }
+{
+    if (r == 0) | (MOST_IDLE < r) {
+        return 1;
+    }
+    if room < r {
+        return 2;
+    }
+    0
+}
+
 // Writes an idle packet of r octets over `out` from `at`, and answers 0; or nothing, and answers the refusal: 1 for a length that no
 // idle packet has, 2 where it does not fit.
 pub fn write_idle(out: &mut [u8], at: usize, r: usize, fill: u8) -> u8
     ensures { λ n. ⌜ n ≡ first (idle-packet-rows r (length (now (out .entry)) - at)) ⌝ }
     ensures { λ n. ⌜ now (out .exit) ≡ pick (eqb n 0) (over (now (out .entry)) at (idle-packet fill r)) (now (out .entry)) ⌝ }
 {
-    let room = octets::refused(octets::less(out.len(), at) < r, 2, 0);
-    let refusal = octets::refused((r == 0) | (MOST_IDLE < r), 1, room);
+    let refusal = idle_refusal(r, octets::less(out.len(), at));
     if refusal != 0 {
         return refusal;
     }

@@ -71,9 +71,16 @@ fn wrap_refusal(
 ) -> u8
     ensures { λ r. ⌜ r ≡ first (wrap-rows limit protocol extension n total room) ⌝ }
 {
-    let of_room = octets::refused(room < total, 2, 0);
-    let of_unit = octets::refused((n == 0) | (limit < total), 8, of_room);
-    octets::refused(!wrap_in_range(limit, protocol, extension), 1, of_unit)
+    if !wrap_in_range(limit, protocol, extension) {
+        return 1;
+    }
+    if (n == 0) | (limit < total) {
+        return 8;
+    }
+    if room < total {
+        return 2;
+    }
+    0
 }
 
 // Wraps a data unit into `out`: the packet's octets from the front, and nothing on a refusal.
@@ -116,10 +123,16 @@ fn reserved(p: &[u8]) -> u16
 fn unwrap_refusal(limit: usize, p: &[u8]) -> u8
     ensures { λ r. ⌜ r ≡ first (unwrap-rows limit (now (p .entry))) ⌝ }
 {
-    let misused = (extension(p) != 0) & (protocol(p) != 6);
-    let of_header = octets::refused(misused | (reserved(p) != 0), 6, 0);
-    let of_packet = octets::refused(!formed(limit, p) | (version(p) == 0), 8, of_header);
-    octets::refused(!in_range(limit), 1, of_packet)
+    if !in_range(limit) {
+        return 1;
+    }
+    if !formed(limit, p) | (version(p) == 0) {
+        return 8;
+    }
+    if ((extension(p) != 0) & (protocol(p) != 6)) | (reserved(p) != 0) {
+        return 6;
+    }
+    0
 }
 
 // Unwraps an encapsulation packet: `unit_part` hands back the data unit.

@@ -5,9 +5,8 @@ use mathlib.Core.List.{List}
 use Prim.Native.Nat.{ℕ, _+_, _-_, _≤_}
 use native.Mathlib.Omega.{arith}
 use lib.ListN.{length, replicate}
-use lib.Dec.{ltb, eqb}
 use borrow.Author.Tests.{ne-eqb}
-use Rattle.octets.specs.Basics.{pick, or, over, laid, first}
+use Rattle.octets.specs.Basics.{over, laid, first}
 use Rattle.packets.specs.Packet.{header-length}
 use Rattle.packets.specs.Front.{front}
 use Rattle.packets.specs.Idle.{idle-packet, idle-lol, idle-packet-rows}
@@ -17,16 +16,12 @@ use Rattle.packets.proofs.front.write_idle.Statement.{statement}
 use Rattle.packets.proofs.front.write_idle.Tie as tie
 
 -- the refusal is the table's
-module _ (c : tie.After-refused2) where
+module _ (c : tie.After-idle-refusal) where
   abbrev start : tie.Start
-  start = c .before .before .before .before
+  start = c .before .before .before
 
-  refusal : c .refused2 .result ≡ first (idle-packet-rows (start .args .r) (length (start .args .out .now) - start .args .at))
-  unfolding first idle-packet-rows
-  refusal =
-      let r : ℕ = start .args .r in
-      c .refused2 .ensures
-      ∙ ap (pick (or (eqb r 0) (ltb 65535 r)) 1) (c .before .refused .ensures ∙ ap (λ room. pick (ltb room r) 2 0) (c .before .before .less .ensures))
+  refusal : c .idle-refusal .result ≡ first (idle-packet-rows (start .args .r) (length (start .args .out .now) - start .args .at))
+  refusal = c .idle-refusal .ensures ∙ ap (λ (room : ℕ). first (idle-packet-rows (start .args .r) room)) (c .before .less .ensures)
 
 returns : tie.Need-returns
 returns c = (refusal (c .before), rw (ne-eqb _ _ (c .if1 .taken)) refl)
@@ -84,7 +79,6 @@ pub write-idle-spec : {M : Type 1} → statement M
 write-idle-spec =
     tie.close
     (tie.spec
-    (λ c κs. search needs)
     (λ c κs. search needs)
     (λ c κs. search needs)
     returns
