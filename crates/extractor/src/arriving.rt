@@ -13,6 +13,7 @@ use crate::Entering;
 use crate::Entry;
 use crate::Extractor;
 use crate::held::held_in;
+use crate::held::last_in;
 use crate::held::length_across;
 use frames::Heading;
 use frames::IDLE_ZONE;
@@ -21,16 +22,22 @@ use frames::Settings;
 use frames::ZONE_AT;
 use packets::Seen;
 
+// Why the octets held are dropped, or that they are not.
+const KEPT: u8 = 0;
+
+const FRAMES_MISSING: u8 = 1;
+
+const POINTER_DIFFERS: u8 = 2;
+
+const HEADER_DAMAGED: u8 = 3;
+
 // How many frames are missing before the count.
 fn lost_since(s: Settings, x: Extractor, count: u32) -> u32
     ensures { λ r. ⌜ r ≡ lost-since s (last-count x) count ⌝ }
 {
     match x {
         Extractor::Fresh => 0,
-        Extractor::Astray { last } => frames::missing(count, last),
-        Extractor::InStep { last, .. } => frames::missing(count, last),
-        Extractor::Walking { last, .. } => frames::missing(count, last),
-        Extractor::Leaving { last } => frames::missing(count, last),
+        _ => frames::missing(count, last_in(x)),
     }
 }
 
@@ -54,14 +61,14 @@ fn next_start(zone: usize, end: usize) -> usize
     if end < zone { end } else { NO_START }
 }
 
-// Why the octets held are dropped, by whether the pointer agrees with them: 0 where it does, else 2.
+// Why the octets held are dropped, by whether the pointer agrees with them.
 fn compared(agrees: bool) -> u8
     ensures { λ r. ⌜ r ≡ pick agrees 0 2 ⌝ }
 {
-    if agrees { 0 } else { 2 }
+    if agrees { KEPT } else { POINTER_DIFFERS }
 }
 
-// Why the octets held are dropped, by the frame's pointer: 3 where their header is damaged, else 2 or, where the pointer agrees, 0.
+// Why the octets held are dropped, by their header and the frame's pointer.
 fn pointer_reason(s: Settings, held: usize, pointer: usize, store: &[u8], frame: &[u8]) -> u8
     requires { ⌜ Walks s held 0 (now store) (now frame) ⌝ }
     requires { ⌜ PointsTo s (now frame) pointer ⌝ }
@@ -71,7 +78,7 @@ fn pointer_reason(s: Settings, held: usize, pointer: usize, store: &[u8], frame:
         return compared((pointer == 0) | (pointer == IDLE_ZONE));
     }
     match length_across(s.limit, store, held, frame, ZONE_AT, ZONE_AT + s.zone) {
-        Seen::Damaged => 3,
+        Seen::Damaged => HEADER_DAMAGED,
         Seen::More => compared(pointer == NO_START),
         Seen::Whole { total } => compared(pointer == next_start(s.zone, octets::less(total, held))),
     }
@@ -85,10 +92,10 @@ fn reason_of(s: Settings, x: Extractor, lost: u32, pointer: usize, store: &[u8],
     ensures { λ r. ⌜ r ≡ reason-of s (stands-for (now (store .entry)) x) (now (frame .entry)) ⌝ }
 {
     if lost != 0 {
-        return 1;
+        return FRAMES_MISSING;
     }
     if !is_in_step(x) {
-        return 0;
+        return KEPT;
     }
     pointer_reason(s, held_in(x), pointer, store, frame)
 }
@@ -139,7 +146,7 @@ pub(crate) fn taken(
     let lost = lost_since(s, x, count);
     let reason = reason_of(s, x, lost, pointer, store, frame);
     let held = held_in(x);
-    if reason == 0 {
+    if reason == KEPT {
         let entry = Entry {
             count,
             replay,

@@ -20,7 +20,7 @@ use packets::Seen;
 const MOST_HEADER: usize = 8;
 
 // The numbers of a record, 0 where it has none: the count of its last frame, how many octets are held, and how far the zone is walked.
-fn last_in(x: Extractor) -> u32
+pub(crate) fn last_in(x: Extractor) -> u32
     ensures { λ r. ⌜ r ≡ last-in x ⌝ }
 {
     match x {
