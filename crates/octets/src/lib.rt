@@ -3,7 +3,7 @@ ghost use mathlib.Core.Path.{_≡_};
 ghost use Prim.Native.Nat.{_+_, _-_, _/_, _^_, _≤_, min};
 ghost use lib.ListN.{length, take, drop, getD, replicate};
 ghost use lib.Dec.{leb};
-ghost use Rattle.octets.specs.Basics.{pick, field, join, placed, number, number-at, octets, over, fits, laid, part-fits, laid-part, Lays};
+ghost use Rattle.octets.specs.Basics.{field, join, placed, number, number-at, octets, over, fits, laid, part-fits, laid-part, Lays};
 
 // Where a field stands in a word: how many bits lie below it, and how many it has.
 pub struct Place {
@@ -180,13 +180,6 @@ pub fn fill(buf: &mut [u8], at: usize, n: usize, octet: u8) -> u8
         i += 1;
     }
     0
-}
-
-// A row of a table of refusals: its refusal where it holds, else what the rows below it say.
-pub fn refused(holds: bool, refusal: u8, below: u8) -> u8
-    ensures { λ r. ⌜ r ≡ pick holds refusal below ⌝ }
-{
-    if holds { refusal } else { below }
 }
 
 pub fn least(a: usize, b: usize) -> usize

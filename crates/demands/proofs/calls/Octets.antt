@@ -30,7 +30,6 @@ of-octets = record {
   put = λ κs buf at k n. lays _ _;
   lay = λ κs buf at src from to. lays _ _;
   fill = λ κs buf at n octet. lays _ _;
-  refused = λ holds refusal below. exactly;
   least = λ a b. exactly;
   less = λ a b. exactly;
 }

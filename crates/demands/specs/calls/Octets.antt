@@ -17,7 +17,6 @@ use Rattle.octets.proofs.number6.Reads as number6-fn
 use Rattle.octets.proofs.put.Reads as put-fn
 use Rattle.octets.proofs.lay.Reads as lay-fn
 use Rattle.octets.proofs.fill.Reads as fill-fn
-use Rattle.octets.proofs.refused.Reads as refused-fn
 use Rattle.octets.proofs.least.Reads as least-fn
 use Rattle.octets.proofs.less.Reads as less-fn
 use Rattle.demands.specs.Promises.{Slice, Left, Contract, as-read, Is}
@@ -56,8 +55,5 @@ pub record OfOctets : Type 0 where
       → Lays (as-read (fill-fn.Pre κs (buf, (at, (n, (octet, tt)))))
       (λ o. fill-fn.Post κs (buf, (at, (n, (octet, tt)))) (o .answer) (at-last buf (o .lent), (at, (n, (octet, tt))))))
       (fits (now buf) at n) (laid (now buf) at (replicate n octet))
-  pub refused : (holds : Bool) (refusal below : ℕ)
-      → Is (as-read (refused-fn.Pre tt (holds, (refusal, (below, tt)))) (λ r. refused-fn.Post tt (holds, (refusal, (below, tt))) r (holds, (refusal, (below, tt)))))
-      (pick holds refusal below)
   pub least : (a b : ℕ) → Is (as-read (least-fn.Pre tt (a, (b, tt))) (λ r. least-fn.Post tt (a, (b, tt)) r (a, (b, tt)))) (min a b)
   pub less : (a b : ℕ) → Is (as-read (less-fn.Pre tt (a, (b, tt))) (λ r. less-fn.Post tt (a, (b, tt)) r (a, (b, tt)))) (a - b)
