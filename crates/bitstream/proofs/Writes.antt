@@ -2,13 +2,13 @@
 -- Assumes nothing.
 use mathlib.Core.Path.{_≡_, refl, ap, _∙_}
 use mathlib.Core.List.{List}
-use mathlib.Core.Bool.{Bool, true, false}
+use mathlib.Core.Bool.{Bool, true}
 use Prim.Native.Nat.{ℕ, _^_, _≤_, _<_}
 use native.Mathlib.Omega.{arith}
 use lib.ListN.{length}
 use lib.Dec.{eqb}
 use borrow.Author.Tests.{leb-true, ltb-true, ltb-false, not-false, eq-eqb}
-use Rattle.octets.specs.Basics.{pick, or, over, first}
+use Rattle.octets.specs.Basics.{pick, over, first}
 use Rattle.octets.proofs.Choices.{and-true, none-holds, or-false, pick-lt}
 use Rattle.octets.proofs.Written.{over-over}
 use Rattle.frames.specs.Link.{count-width, next-count}

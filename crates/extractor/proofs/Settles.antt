@@ -12,7 +12,6 @@ use lib.Seq.{take-append-seam}
 use borrow.Author.Tests.{le-ltb, lt-ltb, eq-eqb}
 use Rattle.octets.specs.Basics.{pick, first}
 use Rattle.octets.proofs.Choices.{apart, and-true}
-use Rattle.octets.proofs.Fields.{field-lt}
 use Rattle.octets.proofs.Fronts.{length-front-over, drop-front-over}
 use Rattle.octets.proofs.Tests.{and-both}
 use Rattle.packets.specs.Packet.{is-idle}

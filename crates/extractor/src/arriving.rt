@@ -5,7 +5,7 @@ ghost use lib.Dec.{ltb};
 ghost use Rattle.octets.specs.Basics.{pick, first};
 ghost use Rattle.frames.specs.Frame.{no-start, count};
 ghost use Rattle.extractor.specs.Extract.{in-step, lost-since, reason-in, reason-of};
-ghost use Rattle.extractor.specs.Records.{enter-rows, last-count, held-in, is-in-step, stands-for, set-off};
+ghost use Rattle.extractor.specs.Records.{enter-rows, last-count, is-in-step, stands-for, set-off};
 ghost use Rattle.extractor.specs.Answers.{enter-says, entered-as};
 ghost use Rattle.extractor.specs.Walks.{Walks, PointsTo, Heads};
 use crate::Entered;

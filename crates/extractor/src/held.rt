@@ -8,7 +8,6 @@ ghost use lib.Dec.{ltb};
 ghost use Rattle.octets.specs.Basics.{first, row};
 ghost use Rattle.packets.specs.Packet.{look};
 ghost use Rattle.packets.specs.Header.{seen};
-ghost use Rattle.frames.specs.Frame.{in-range};
 ghost use Rattle.extractor.specs.Records.{unfinished, holds-well, reachable, is-entered, held-in};
 ghost use Rattle.extractor.specs.Walks.{last-in, at-in};
 use crate::Extractor;

@@ -4,9 +4,8 @@ use mathlib.Core.Path.{_≡_, refl, ap, _∙_}
 use mathlib.Core.List.{List}
 use mathlib.Core.Bool.{true}
 use Prim.Native.Nat.{ℕ, _^_}
-use native.Mathlib.Omega.{arith}
 use lib.Dec.{eqb}
-use borrow.Author.Tests.{eqb-true, ltb-true, lt-ltb}
+use borrow.Author.Tests.{eqb-true, lt-ltb}
 use Rattle.octets.specs.Basics.{first}
 use Rattle.octets.proofs.Tests.{test}
 use Rattle.frames.specs.Frame.{in-range, frame-rows, count, heading}
@@ -19,7 +18,6 @@ use Rattle.extractor.specs.Extract.{lost-since, reason-of, step-of, take-in}
 use Rattle.extractor.specs.Records.{on-wheel, stands-for, enter}
 use Rattle.extractor.specs.declared.Extractor.{Extractor}
 use Rattle.extractor.specs.declared.Extractor.the-variants.{InStep}
-use Rattle.extractor.proofs.Settles.{count-on-wheel}
 use Rattle.judge.specs.Judge.{opened, faulty-entry}
 use Rattle.judge.specs.Calls.{try-frame}
 use Rattle.judge.proofs.Faults.{refused-faulty}

@@ -1,6 +1,6 @@
 -- `exports::extract::show_numbers` meets its contract: its tests are the definition's.
 -- Assumes nothing.
-use mathlib.Core.Path.{refl, sym, _∙_}
+use mathlib.Core.Path.{refl}
 use borrow.Author.Tests.{eq-eqb, ne-eqb}
 use Rattle.exports.specs.Extract.{show-numbers}
 use borrow.Author.Needs.{needs}

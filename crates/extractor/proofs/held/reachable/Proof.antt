@@ -1,6 +1,6 @@
 -- `held::reachable` meets its contract: the same tests of the record's numbers.
 -- Assumes nothing.
-use mathlib.Core.Path.{refl, sym, ap, _∙_}
+use mathlib.Core.Path.{refl}
 use borrow.Author.Tests.{eq-eqb, ne-eqb, lt-ltb, le-ltb}
 use Rattle.extractor.proofs.Refused.{reached-by}
 use borrow.Author.Needs.{needs}

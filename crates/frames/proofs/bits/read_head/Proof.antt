@@ -8,7 +8,7 @@ use Rattle.octets.specs.Basics.{first}
 use Rattle.octets.proofs.Fields.{field-lt}
 use Rattle.frames.specs.Link.{header-rows}
 use Rattle.frames.specs.Frame.{heading-of}
-use Rattle.frames.specs.BitFrame.{bits-in-range, bit-frame-length, bit-frame-rows, bit-heading-rows, bit-heading, bit-spare-place, bit-pointer-place, bit-unused}
+use Rattle.frames.specs.BitFrame.{bit-frame-length, bit-frame-rows, bit-heading-rows, bit-heading, bit-spare-place, bit-pointer-place, bit-unused}
 use Rattle.frames.proofs.Headings.{heading-reads}
 use Rattle.frames.proofs.bits.read_head.Statement.{statement}
 use Rattle.frames.proofs.bits.read_head.Tie as tie
