@@ -107,8 +107,8 @@ loss-flag s Fresh c = false
 loss-flag s (Last last) c = not (eqb c (next-count (count-width (s .link)) last))
 
 -- a refusal alone, with the record as it was
-abbrev pub nothing-read : ℕ → Reader → Reading
-nothing-read r x = record { refusal = r; count = 0; replay = 0; bits = 0; lost = false; reader = x }
+abbrev pub no-reading : ℕ → Reader → Reading
+no-reading r x = record { refusal = r; count = 0; replay = 0; bits = 0; lost = false; reader = x }
 
 -- what a call answers: a refusal alone, or all that the frame says
 unfoldable pub reading : BitSettings → Reader → List ℕ → Reading
@@ -117,7 +117,7 @@ reading s x f =
     let c : ℕ = bit-count s f in
     pick (eqb r 0)
     (record { refusal = 0; count = c; replay = bit-replay s f; bits = valid-bits s (bit-pointer s f); lost = loss-flag s x c; reader = Last c })
-    (nothing-read r x)
+    (no-reading r x)
 
 -- the zone's leading octets that hold n bits, as few as do; none where the frame has another length or the zone fewer bits
 unfoldable pub leading-octets : BitSettings → ℕ → List ℕ → List ℕ

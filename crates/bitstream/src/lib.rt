@@ -3,7 +3,7 @@ ghost use mathlib.Core.Path.{_≡_};
 ghost use Prim.Native.Nat.{_≤_};
 ghost use Rattle.octets.specs.Basics.{first, over};
 ghost use Rattle.frames.specs.Link.{zone-at, next-count};
-ghost use Rattle.bitstream.specs.Bitstream.{octets-for, pointer-for, valid-bits, mixed, zone-with, begun, writer-reachable, write-rows, wrote, written, reader-reachable, loss-flag, nothing-read, reading, leading-octets, Fits};
+ghost use Rattle.bitstream.specs.Bitstream.{octets-for, pointer-for, valid-bits, mixed, zone-with, begun, writer-reachable, write-rows, wrote, written, reader-reachable, loss-flag, no-reading, reading, leading-octets, Fits};
 use frames::REFUSED_ROOM;
 use frames::REFUSED_SETTING;
 use frames::WHEEL;
@@ -182,7 +182,7 @@ fn valid_bits(s: BitSettings, pointer: u16) -> usize
 
 // A refusal alone, with the reader as it was.
 fn refused(refusal: u8, x: Reader) -> Reading
-    ensures { λ r. ⌜ r ≡ nothing-read refusal x ⌝ }
+    ensures { λ r. ⌜ r ≡ no-reading refusal x ⌝ }
 {
     Reading {
         refusal,

@@ -6,9 +6,8 @@ use mathlib.Core.Bool.{Bool, true, false, not}
 use Prim.Native.Nat.{ℕ, _+_, _^_, _≤_, _<_}
 use native.Mathlib.Omega.{arith}
 use lib.ListN.{length}
-use borrow.Author.Tests.{ltb-false, lt-ltb, le-ltb}
+use borrow.Author.Tests.{lt-ltb, le-ltb}
 use Rattle.octets.specs.Basics.{and, octets, over, laid, first}
-use Rattle.octets.proofs.Choices.{none-holds}
 use Rattle.octets.proofs.Written.{laid-within, length-octets, length-over, over-over}
 use Rattle.frames.specs.Link.{head-word, headers, written-rows, count-width}
 use Rattle.frames.specs.Frame.{in-range, unused, head-rows}
@@ -28,11 +27,7 @@ unfolding headers
 headers-laid l c r z w d e f h q t u =
     rw (u, t, q) (two-parts d (octets 6 (head-word l c r)) (octets 2 z) 6 2 (length-octets 6 (head-word l c r)) (length-octets 2 z) h)
 
--- headers that are not refused have room
-pub written-room : (l : Link) (settled : Bool) (c : ℕ) (pointed : Bool) (d : List ℕ) → first (written-rows l settled c pointed d) ≡ 0 → 8 ≤ length d
-unfolding written-rows
-written-room l settled c pointed d e = ltb-false (length d) 8 (none-holds 1 _ _ (none-holds 0 _ _ e .1) .0)
-
+-- headers in range, with room for them, are not refused
 pub written-taken : (l : Link) (c : ℕ) {settled fits unused : Bool} (d : List ℕ) → settled ≡ true → c < 2 ^ count-width l → fits ≡ true → unused ≡ false
     → 8 ≤ length d → first (written-rows l settled c (and fits (not unused)) d) ≡ 0
 unfolding first written-rows
