@@ -6,7 +6,7 @@ use mathlib.Core.Bool.{Bool, true, false, not}
 use Prim.Native.Nat.{ℕ, _^_}
 use native.Mathlib.Omega.{arith}
 use lib.ListN.{length}
-use lib.Dec.{leb, ltb, eqb}
+use lib.Dec.{ltb, eqb}
 use borrow.Author.Tests.{le-leb, eq-eqb, ne-eqb, eqb-false}
 use Rattle.octets.specs.Basics.{pick, and, Row, row, first}
 use Rattle.octets.proofs.Tests.{test}
@@ -14,7 +14,7 @@ use Rattle.frames.specs.Link.{count-width, header-rows}
 use Rattle.frames.specs.Frame.{in-range, frame-rows, heading-rows}
 use Rattle.frames.specs.declared.Settings.{Settings}
 use Rattle.extractor.specs.Records.{holds-well, reachable, held-in, checked}
-use Rattle.extractor.specs.Walks.{last-in, at-in}
+use Rattle.extractor.specs.Walks.{last-in, at-in, reached}
 use Rattle.extractor.specs.declared.Extractor.{Extractor}
 use Rattle.extractor.specs.declared.Extractor.the-variants.{Fresh, Astray, InStep, Walking, Leaving}
 
@@ -26,9 +26,8 @@ and-yes false = refl
 
 -- the same test of every record, by its numbers
 pub reached-by : (s : Settings) (store : List ℕ) (x : Extractor)
-    → reachable s store x
-    ≡ and (ltb (last-in x) (2 ^ 24)) (pick (eqb (held-in x) 0) (leb (at-in x) (s .zone)) (and (eqb (at-in x) 0) (holds-well s store (held-in x))))
-unfolding reachable holds-well count-width
+    → reachable s store x ≡ reached s store (last-in x) (held-in x) (at-in x)
+unfolding reachable reached holds-well count-width
 reached-by s store Fresh = rw (le-leb 0 (s .zone) (omega arith)) refl
 reached-by s store (Astray last) = rw (le-leb 0 (s .zone) (omega arith)) (and-yes _)
 reached-by s store (InStep last h) = ap (and (ltb last (2 ^ 24))) (test (eqb h 0) (λ t. rw (t, le-leb 0 (s .zone) (omega arith)) refl) (λ t. rw t refl))

@@ -1,12 +1,15 @@
 -- What the parts of a call that is not refused go by.
 use mathlib.Core.Path.{_≡_}
 use mathlib.Core.List.{List}
-use mathlib.Core.Bool.{true}
+use mathlib.Core.Bool.{Bool, true}
 use Prim.Native.Nat.{ℕ, _≤_}
 use lib.ListN.{length}
+use lib.Dec.{leb, eqb}
+use Rattle.octets.specs.Basics.{pick, and}
 use Rattle.frames.specs.Frame.{in-range, frame-length, pointer, heading}
 use Rattle.frames.specs.declared.Settings.{Settings}
 use Rattle.frames.specs.declared.Heading.{Heading}
+use Rattle.extractor.specs.Records.{holds-well, on-wheel}
 use Rattle.extractor.specs.declared.Extractor.{Extractor}
 use Rattle.extractor.specs.declared.Extractor.the-variants.{Fresh, Astray, InStep, Walking, Leaving}
 
@@ -24,6 +27,10 @@ at-in (Astray last) = 0
 at-in (InStep last h) = 0
 at-in (Walking last h at) = at
 at-in (Leaving last) = 0
+
+-- whether the rules can reach a record with these numbers
+unfoldable pub reached : Settings → List ℕ → ℕ → ℕ → ℕ → Bool
+reached s store last h at = and (on-wheel s last) (pick (eqb h 0) (leb at (s .zone)) (and (eqb at 0) (holds-well s store h)))
 
 -- a walk of a zone
 pub record Walks (s : Settings) (h at : ℕ) (store f : List ℕ) : Type 0 where

@@ -2,16 +2,16 @@
 ghost use mathlib.Core.Path.{_≡_};
 ghost use Prim.Native.Nat.{_-_, _≤_};
 ghost use mathlib.Core.List.{[], _∷_, _++_};
-ghost use mathlib.Core.Bool.{true, not};
+ghost use mathlib.Core.Bool.{not};
 ghost use lib.ListN.{length, take, drop};
 ghost use lib.Dec.{ltb};
 ghost use Rattle.octets.specs.Basics.{first, row};
 ghost use Rattle.packets.specs.Packet.{look};
 ghost use Rattle.packets.specs.Header.{seen};
+ghost use Rattle.frames.specs.declared.Settings.{Settings};
 ghost use Rattle.extractor.specs.Records.{unfinished, holds-well, reachable, is-entered, held-in};
-ghost use Rattle.extractor.specs.Walks.{last-in, at-in};
+ghost use Rattle.extractor.specs.Walks.{last-in, at-in, reached};
 use crate::Extractor;
-use frames::Settings;
 use frames::WHEEL;
 use packets::Seen;
 
@@ -43,7 +43,7 @@ pub(crate) fn held_in(x: Extractor) -> usize
     }
 }
 
-fn at_in(x: Extractor) -> usize
+pub(crate) fn at_in(x: Extractor) -> usize
     ensures { λ r. ⌜ r ≡ at-in x ⌝ }
 {
     match x {
@@ -67,8 +67,8 @@ fn unfinished(n: usize, length: Seen) -> bool
 }
 
 // Whether the first octets of the store are such, or none are held. No more than their header is read.
-fn holds_well(s: Settings, store: &[u8], held: usize) -> bool
-    ensures { λ r. ⌜ r ≡ holds-well s (now (store .entry)) held ⌝ }
+fn holds_well(limit: usize, store: &[u8], held: usize) -> bool
+    ensures { λ r. ⌜ ((s : Settings) → limit ≡ s .limit → r ≡ holds-well s (now (store .entry)) held) ⌝ }
 {
     if held == 0 {
         return true;
@@ -76,32 +76,37 @@ fn holds_well(s: Settings, store: &[u8], held: usize) -> bool
     if store.len() < held {
         return false;
     }
-    unfinished(held, packets::read_length(s.limit, &store[..held]))
+    unfinished(held, packets::read_length(limit, &store[..held]))
 }
 
-// Whether the rules can reach the record with this store.
-fn reachable(s: Settings, store: &[u8], x: Extractor) -> bool
-    ensures { λ r. ⌜ r ≡ reachable s (now (store .entry)) x ⌝ }
+// Whether the rules can reach a record with these numbers and this store, for a limit and a zone.
+fn reachable(limit: usize, zone: usize, last: u32, held: usize, at: usize, store: &[u8]) -> bool
+    ensures { λ r. ⌜ ((s : Settings) → limit ≡ s .limit → zone ≡ s .zone → r ≡ reached s (now (store .entry)) last held at) ⌝ }
 {
-    let held = held_in(x);
-    let at = at_in(x);
-    if WHEEL <= last_in(x) {
+    if WHEEL <= last {
         return false;
     }
     if held == 0 {
-        return at <= s.zone;
+        return at <= zone;
     }
-    (at == 0) & holds_well(s, store, held)
+    (at == 0) & holds_well(limit, store, held)
 }
 
-// What store and record are refused for; 0 where they are not.
-pub(crate) fn refusal(s: Settings, x: Extractor, store: &[u8]) -> u8
-    ensures { λ r. ⌜ r ≡ first (row 2 (ltb (length (now (store .entry))) (s .limit)) ∷ row 10 (not (reachable s (now (store .entry)) x)) ∷ []) ⌝ }
+// What the store and a record with these numbers are refused for; 0 where they are not.
+pub(crate) fn refusal(
+    limit: usize,
+    zone: usize,
+    last: u32,
+    held: usize,
+    at: usize,
+    store: &[u8],
+) -> u8
+    ensures { λ r. ⌜ ((s : Settings) (x : Extractor) → limit ≡ s .limit → zone ≡ s .zone → last ≡ last-in x → held ≡ held-in x → at ≡ at-in x → r ≡ first (row 2 (ltb (length (now (store .entry))) (s .limit)) ∷ row 10 (not (reachable s (now (store .entry)) x)) ∷ [])) ⌝ }
 {
-    if store.len() < s.limit {
+    if store.len() < limit {
         return 2;
     }
-    if !reachable(s, store, x) {
+    if !reachable(limit, zone, last, held, at, store) {
         return 10;
     }
     0

@@ -86,7 +86,14 @@ pub fn record_refusal(s: Settings, x: Extractor, store: &[u8]) -> u8
     if !frames::in_range(s) {
         return 1;
     }
-    held::refusal(s, x, store)
+    held::refusal(
+        s.limit,
+        s.zone,
+        held::last_in(x),
+        held::held_in(x),
+        held::at_in(x),
+        store,
+    )
 }
 
 // What entering is refused for, by what the frame's header is: settings out of range are its first refusal.
@@ -96,7 +103,14 @@ fn enter_refusal(s: Settings, x: Extractor, store: &[u8], head: u8) -> u8
     if head == 1 {
         return 1;
     }
-    let of_record = held::refusal(s, x, store);
+    let of_record = held::refusal(
+        s.limit,
+        s.zone,
+        held::last_in(x),
+        held::held_in(x),
+        held::at_in(x),
+        store,
+    );
     if of_record != 0 {
         return of_record;
     }

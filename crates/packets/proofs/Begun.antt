@@ -8,7 +8,7 @@ use native.Mathlib.Omega.{arith}
 use lib.ListN.{length, take, drop, take-append-drop}
 use lib.Seq.{length-take-le, take-append-le}
 use Rattle.octets.proofs.Choices.{apart}
-use Rattle.packets.specs.Packet.{Look, more, damaged, whole, look, is-idle}
+use Rattle.packets.specs.Packet.{more, damaged, whole, look, is-idle}
 use Rattle.packets.specs.Header.{told}
 use Rattle.packets.proofs.Grown.{Bounded, look-bounded, look-grown, look-take, look-front}
 use Rattle.packets.proofs.Readings.{told-append}

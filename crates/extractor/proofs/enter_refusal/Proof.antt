@@ -19,14 +19,16 @@ returns c f e = rw (out-of-range (c .before .before .args .s) f (sym e ∙ c .if
 -- settings in range
 module _ (c : tie.After-refusal) (f : List ℕ) where
   abbrev start : tie.Start
-  start = c .before .before .before
+  start = c .before .before .before .before .before .before
 
   module _ (e : start .args .head ≡ first (heading-rows (start .args .s) f)) where
     ranged : in-range (start .args .s) ≡ true
-    ranged = within-range (start .args .s) f (λ q. c .before .if1 .left (e ∙ q))
+    ranged = within-range (start .args .s) f (λ q. c .before .before .before .before .if1 .left (e ∙ q))
 
     of-record : c .refusal .result ≡ first (checked (start .args .s) (start .args .x) (start .args .store .now) [])
-    of-record = c .refusal .ensures ∙ settled-rows (start .args .s) (start .args .x) (start .args .store .now) ranged
+    of-record =
+        c .refusal .ensures (start .args .s) (start .args .x) refl refl (c .before .before .before .last-in .ensures) (c .before .before .held-in .ensures) (c .before .at-in .ensures)
+        ∙ settled-rows (start .args .s) (start .args .x) (start .args .store .now) ranged
 
     -- the rows below the record's
     lower : c .refusal .result ≡ 0 → {n : ℕ} → n ≡ first (row 9 (is-entered (start .args .x)) ∷ frame-rows (start .args .s) f)
@@ -59,6 +61,9 @@ enter-refusal-spec =
     tie.close
     (tie.spec
     returns
+    (λ c κs. search needs)
+    (λ c κs. search needs)
+    (λ c κs. search needs)
     (λ c κs. search needs)
     returns-2
     (λ c κs. search needs)
