@@ -5,6 +5,8 @@ ghost use lib.ListN.{length, take, drop, getD, replicate};
 ghost use lib.Dec.{leb};
 ghost use Rattle.octets.specs.Basics.{field, join, placed, number, number-at, octets, over, fits, laid, part-fits, laid-part, Lays};
 
+pub mod refusals;
+
 // Where a field stands in a word: how many bits lie below it, and how many it has.
 pub struct Place {
     pub below: u32,
@@ -117,15 +119,12 @@ pub fn number6(s: &[u8], at: usize) -> u64
     }
 }
 
-// The answer where octets do not fit.
-const NO_ROOM: u8 = 2;
-
 // Writes n as k octets over buf from `at`, the most significant first, and answers 0; or nothing, and answers 2, where they do not fit.
 pub fn put(buf: &mut [u8], at: usize, k: usize, n: u64) -> u8
     ensures { λ r. ⌜ Lays (fits (now (buf .entry)) at k) (laid (now (buf .entry)) at (octets k n)) r (now (buf .exit)) ⌝ }
 {
     if !within(buf.len(), at, k) {
-        return NO_ROOM;
+        return refusals::ROOM;
     }
     let mut rest = n;
     let mut left = k;
@@ -155,13 +154,13 @@ pub fn lay(buf: &mut [u8], at: usize, src: &[u8], from: usize, to: usize) -> u8
     ensures { λ r. ⌜ Lays (part-fits (now (buf .entry)) at from to (now (src .entry))) (laid-part (now (buf .entry)) at from to (now (src .entry))) r (now (buf .exit)) ⌝ }
 {
     if to < from {
-        return NO_ROOM;
+        return refusals::ROOM;
     }
     if src.len() < to {
-        return NO_ROOM;
+        return refusals::ROOM;
     }
     if !within(buf.len(), at, to - from) {
-        return NO_ROOM;
+        return refusals::ROOM;
     }
     copy(buf, at, src, from, to - from);
     0
@@ -172,7 +171,7 @@ pub fn fill(buf: &mut [u8], at: usize, n: usize, octet: u8) -> u8
     ensures { λ r. ⌜ Lays (fits (now (buf .entry)) at n) (laid (now (buf .entry)) at (replicate n octet)) r (now (buf .exit)) ⌝ }
 {
     if !within(buf.len(), at, n) {
-        return NO_ROOM;
+        return refusals::ROOM;
     }
     let mut i = 0;
     while i < n {
