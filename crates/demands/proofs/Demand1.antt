@@ -2,6 +2,7 @@
 -- Assumes nothing.
 use Rattle.demands.specs.Demand1.{Demand1}
 use Rattle.demands.proofs.calls.Octets.{of-octets}
+use Rattle.demands.proofs.calls.Arrays.{of-arrays}
 use Rattle.demands.proofs.calls.Packets.{of-packets}
 use Rattle.demands.proofs.calls.Space.{of-space}
 use Rattle.demands.proofs.calls.Frames.{of-frames}
@@ -15,6 +16,7 @@ use Rattle.demands.proofs.calls.Exports.{of-exports}
 pub demand-1 : Demand1
 demand-1 = record {
   octets = of-octets;
+  arrays = of-arrays;
   packets = of-packets;
   space = of-space;
   frames = of-frames;

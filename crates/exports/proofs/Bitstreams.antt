@@ -11,7 +11,8 @@ use Rattle.bitstream.specs.declared.Writer.{Writer}
 use Rattle.bitstream.specs.declared.Written.{Written}
 use Rattle.bitstream.specs.declared.Reader.{Reader}
 use Rattle.bitstream.specs.declared.Reading.{Reading}
-use Rattle.exports.specs.Left.{left, kept}
+use Rattle.arrays.specs.Arrays.{kept}
+use Rattle.exports.specs.Left.{left}
 use Rattle.exports.specs.Bits.{bits-short, bit-settings-of, writer-of, write-leaves, reader-of, reader-numbers, read-numbers, read-leaves}
 use Rattle.exports.proofs.Leaving.{leaving}
 

@@ -11,7 +11,8 @@ use Rattle.octets.specs.Basics.{pick, and}
 use Rattle.packets.specs.Packet.{Look, more, damaged, whole, look, limit-in-range, well-formed}
 use Rattle.packets.specs.Header.{bare, reading}
 use Rattle.packets.specs.Header as header
-use Rattle.exports.specs.Left.{left, told}
+use Rattle.arrays.specs.Arrays.{told}
+use Rattle.exports.specs.Left.{left}
 use Rattle.exports.specs.Packet.{formed-numbers, formed-leaves}
 
 -- the header reader refuses a limit out of range, and nothing else

@@ -10,7 +10,8 @@ use Rattle.judge.specs.Calls.{frame-says, frame-call, close-says, close-call}
 use Rattle.judge.specs.declared.Judge.{Judge}
 use Rattle.judge.specs.declared.Judged.{Judged}
 use Rattle.judge.specs.declared.Closed.{Closed}
-use Rattle.exports.specs.Left.{left, told, kept}
+use Rattle.arrays.specs.Arrays.{told, kept}
+use Rattle.exports.specs.Left.{left}
 use Rattle.exports.specs.Channel.{short, settings-of}
 use Rattle.exports.specs.Judging.{judge-of, judge-numbers, judge-leaves, close-numbers, close-leaves}
 

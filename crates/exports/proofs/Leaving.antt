@@ -4,7 +4,8 @@ use mathlib.Core.Path.{_≡_, ap}
 use mathlib.Core.List.{List, []}
 use Prim.Native.Nat.{ℕ}
 use lib.ListN.{getD, drop}
-use Rattle.exports.specs.Left.{Left, left, told, kept}
+use Rattle.arrays.specs.Arrays.{told, kept}
+use Rattle.exports.specs.Left.{Left, left}
 
 -- a record's array with its next numbers, and an answer's array with the numbers behind the refusal
 abbrev pub leaving : List ℕ → List ℕ → List ℕ → List ℕ → Left

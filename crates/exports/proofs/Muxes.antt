@@ -9,7 +9,8 @@ use Rattle.frames.specs.declared.Settings.{Settings}
 use Rattle.multiplexer.specs.Calls.{Call, Answer, answers, answer}
 use Rattle.multiplexer.specs.declared.Mux.{Mux}
 use Rattle.multiplexer.specs.declared.Reply.{Reply}
-use Rattle.exports.specs.Left.{left, told, kept}
+use Rattle.arrays.specs.Arrays.{told, kept}
+use Rattle.exports.specs.Left.{left}
 use Rattle.exports.specs.Channel.{short, settings-of}
 use Rattle.exports.specs.Mux.{mux-of, mux-numbers, mux-leaves}
 use Rattle.exports.proofs.Leaving.{leaving, with-octets}

@@ -22,7 +22,8 @@ use Rattle.judge.specs.declared.Judge.the-variants.{Open, Sound, Faulty}
 use Rattle.bitstream.specs.declared.Writer.{Writer}
 use Rattle.bitstream.specs.declared.Reader.{Reader}
 use Rattle.bitstream.specs.declared.Reader.the-variants as reader
-use Rattle.exports.specs.Left.{Left, told}
+use Rattle.arrays.specs.Arrays.{told}
+use Rattle.exports.specs.Left.{Left}
 use Rattle.exports.specs.Packet.{unwrap-numbers, unit-numbers}
 use Rattle.exports.specs.Mux.{mux-of, mux-numbers}
 use Rattle.exports.specs.Extract.{extractor-with, extractor-of, extractor-numbers, step-numbers, part-numbers, show-numbers}

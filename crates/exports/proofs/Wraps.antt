@@ -14,7 +14,8 @@ use Rattle.octets.proofs.Choices.{and-true, split}
 use Rattle.packets.specs.Packet.{limit-in-range}
 use Rattle.packets.specs.Wrap.{wrap-in-range, wrap-rows, wrapping, wraps}
 use Rattle.packets.specs.declared.wrapping.Wrapped.{Wrapped}
-use Rattle.exports.specs.Left.{left, told}
+use Rattle.arrays.specs.Arrays.{told}
+use Rattle.exports.specs.Left.{left}
 use Rattle.exports.specs.Packet.{wrap-numbers, wrap-leaves}
 
 pub refuted : (b : Bool) → (b ≡ true → ⊥) → b ≡ false

@@ -12,7 +12,8 @@ use Rattle.bitstream.specs.declared.Writer.{Writer}
 use Rattle.bitstream.specs.declared.Reader.{Reader}
 use Rattle.bitstream.specs.declared.Reader.the-variants.{Fresh, Last}
 use Rattle.bitstream.specs.declared.Reading.{Reading}
-use Rattle.exports.specs.Left.{Left, left, told, kept, bit, octet-of, count-of}
+use Rattle.arrays.specs.Arrays.{told, kept, bit, octet-of, count-of}
+use Rattle.exports.specs.Left.{Left, left}
 use Rattle.exports.specs.Channel.{link-of, zone-for}
 
 -- whether an array is short: of four settings, or of a record's or an answer's numbers

@@ -7,7 +7,7 @@ use lib.Dec.{leb, ltb}
 use Rattle.octets.specs.Basics.{pick, or}
 use Rattle.frames.specs.declared.Link.{Link}
 use Rattle.frames.specs.declared.Settings.{Settings}
-use Rattle.exports.specs.Left.{octet-of, count-of}
+use Rattle.arrays.specs.Arrays.{octet-of, count-of}
 
 -- whether an array is short: of five settings, of a record's four numbers, or of an answer's
 unfoldable pub short : ℕ → ℕ → ℕ → ℕ → Bool

@@ -8,7 +8,8 @@ use Rattle.octets.specs.Basics.{pick, or}
 use Rattle.extractor.specs.Answers.{EnterNumbers, EnterSaid, enter-answer, StepNumbers, StepSaid, step-answer}
 use Rattle.extractor.specs.declared.Extractor.{Extractor}
 use Rattle.extractor.specs.declared.Extractor.the-variants.{Fresh, Astray, InStep, Walking, Leaving}
-use Rattle.exports.specs.Left.{Left, left, told, kept, count-of}
+use Rattle.arrays.specs.Arrays.{told, kept, count-of}
+use Rattle.exports.specs.Left.{Left, left}
 use Rattle.exports.specs.Channel.{short, settings-of}
 
 -- ---- the record

@@ -8,7 +8,8 @@ use Rattle.octets.specs.Basics.{pick}
 use Rattle.judge.specs.Calls.{FrameSaid, frame-call, CloseSaid, close-call}
 use Rattle.judge.specs.declared.Judge.{Judge}
 use Rattle.judge.specs.declared.Judge.the-variants.{Open, Sound, Faulty}
-use Rattle.exports.specs.Left.{Left, left, told, kept, count-of}
+use Rattle.arrays.specs.Arrays.{told, kept, count-of}
+use Rattle.exports.specs.Left.{Left, left}
 use Rattle.exports.specs.Channel.{short, settings-of}
 
 -- ---- the record

@@ -7,7 +7,8 @@ use Rattle.octets.specs.Basics.{pick}
 use Rattle.multiplexer.specs.Multiplex.{begun}
 use Rattle.multiplexer.specs.Calls.{Call, Answer, answer}
 use Rattle.multiplexer.specs.declared.Mux.{Mux}
-use Rattle.exports.specs.Left.{Left, left, told, kept, bit, count-of}
+use Rattle.arrays.specs.Arrays.{told, kept, bit, count-of}
+use Rattle.exports.specs.Left.{Left, left}
 use Rattle.exports.specs.Channel.{short, settings-of}
 
 -- the record: the count, the octets laid, the first start and the octets taken; and back

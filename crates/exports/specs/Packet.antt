@@ -7,7 +7,8 @@ use Rattle.octets.specs.Basics.{pick, or}
 use Rattle.packets.specs.Packet.{limit-in-range, well-formed}
 use Rattle.packets.specs.Header.{Reading, reading}
 use Rattle.packets.specs.Wrap.{Wrapping, wrapping, Unwrapping, unwrapping}
-use Rattle.exports.specs.Left.{Left, left, told, bit}
+use Rattle.arrays.specs.Arrays.{told, bit}
+use Rattle.exports.specs.Left.{Left, left}
 
 -- 1 a space packet, 2 an encapsulation packet, by the version
 unfoldable pub kind-number : ℕ → ℕ

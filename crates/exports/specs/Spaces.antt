@@ -6,7 +6,8 @@ use lib.Dec.{ltb}
 use Rattle.octets.specs.Basics.{pick}
 use Rattle.space.specs.Space.{SpaceReading, space-reading, SpaceWriting, space-writing}
 use Rattle.space.specs.declared.SpaceHeader.{SpaceHeader}
-use Rattle.exports.specs.Left.{Left, left, told}
+use Rattle.arrays.specs.Arrays.{told}
+use Rattle.exports.specs.Left.{Left, left}
 
 -- ---- reading
 

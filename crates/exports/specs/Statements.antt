@@ -24,7 +24,8 @@ use Rattle.judge.specs.declared.Judge.the-variants.{Open, Sound, Faulty}
 use Rattle.bitstream.specs.declared.Writer.{Writer}
 use Rattle.bitstream.specs.declared.Reader.{Reader}
 use Rattle.bitstream.specs.declared.Reader.the-variants as reader
-use Rattle.exports.specs.Left.{Left, left, told}
+use Rattle.arrays.specs.Arrays.{told}
+use Rattle.exports.specs.Left.{Left, left}
 use Rattle.exports.specs.Packet.{header-numbers, formed-numbers, unwrap-numbers, unit-numbers}
 use Rattle.exports.specs.Mux.{mux-of, mux-numbers, flush-numbers}
 use Rattle.exports.specs.Extract.{extractor-of, extractor-numbers, enter-numbers, step-numbers, show-numbers}

@@ -1,9 +1,9 @@
 // The settings of a packet channel as numbers.
 ghost use mathlib.Core.Path.{_≡_};
 ghost use Rattle.exports.specs.Channel.{short, zone-for, link-of, settings-of};
-use crate::arrays::count_of;
-use crate::arrays::entry;
-use crate::arrays::octet_of;
+use arrays::count_of;
+use arrays::entry;
+use arrays::octet_of;
 use frames::Link;
 use frames::Settings;
 

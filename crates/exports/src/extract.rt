@@ -6,17 +6,17 @@ ghost use lib.ListN.{length};
 ghost use Rattle.extractor.specs.Answers.{entered-numbers, packet-or-idle, found-numbers};
 ghost use Rattle.exports.specs.Left.{left};
 ghost use Rattle.exports.specs.Extract.{unreached, extractor-with, extractor-of, extractor-numbers, enter-numbers, enter-leaves, step-numbers, step-leaves, part-numbers, show-numbers, show-leaves};
-use crate::arrays::ROOM;
-use crate::arrays::count_of;
-use crate::arrays::entry;
-use crate::arrays::inside;
-use crate::arrays::leave;
-use crate::arrays::put;
 use crate::channel::is_short;
 use crate::channel::settings_of;
+use crate::lent::ROOM;
+use crate::lent::leave;
+use arrays::count_of;
+use arrays::entry;
+use arrays::put;
 use extractor::Entered;
 use extractor::Extractor;
 use extractor::Found;
+use octets::within;
 
 // The entries of each answer.
 const ENTERED_ENTRIES: usize = 6;
@@ -186,7 +186,7 @@ pub extern "C" fn itz_extractor_step(
 fn part_numbers(place: u64, room: usize, start: u64, size: u64) -> [u64; 3]
     ensures { λ r. ⌜ r ≡ part-numbers place room start size ⌝ }
 {
-    if inside(room, start as usize, size as usize) {
+    if within(room, start as usize, size as usize) {
         [place, start, size]
     } else {
         [0; 3]

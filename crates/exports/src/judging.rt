@@ -4,13 +4,13 @@ ghost use mathlib.Core.List.{[], _∷_};
 ghost use Rattle.judge.specs.Calls.{close-says};
 ghost use Rattle.exports.specs.Left.{left};
 ghost use Rattle.exports.specs.Judging.{unjudged, judge-with, judge-of, judge-numbers, judge-leaves, close-numbers, close-leaves};
-use crate::arrays::ROOM;
-use crate::arrays::count_of;
-use crate::arrays::entry;
-use crate::arrays::keep;
-use crate::arrays::tell;
 use crate::channel::is_short;
 use crate::channel::settings_of;
+use crate::lent::ROOM;
+use crate::lent::tell;
+use arrays::count_of;
+use arrays::entry;
+use arrays::keep;
 use judge::Closed;
 use judge::Judge;
 

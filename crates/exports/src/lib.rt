@@ -1,9 +1,9 @@
 // The library for C and Rust: `include/itzahuemo.h` declares these functions and says what each number stands for.
-mod arrays;
 mod bits;
 mod channel;
 mod extract;
 mod judging;
+mod lent;
 mod mux;
 mod packet;
 mod spaces;

@@ -9,13 +9,13 @@ ghost use Rattle.packets.specs.Header.{answer, version-of};
 ghost use Rattle.packets.specs.Wrap.{wraps, unwraps};
 ghost use Rattle.exports.specs.Left.{left};
 ghost use Rattle.exports.specs.Packet.{kind-number, header-numbers, header-leaves, formed-leaves, wrap-numbers, wrap-leaves, unwrap-numbers, unwrap-leaves, unit-numbers, unit-leaves};
-use crate::arrays::ROOM;
-use crate::arrays::entry;
-use crate::arrays::flag;
-use crate::arrays::inside;
-use crate::arrays::octet_of;
-use crate::arrays::put;
-use crate::arrays::tell;
+use crate::lent::ROOM;
+use crate::lent::tell;
+use arrays::entry;
+use arrays::flag;
+use arrays::octet_of;
+use arrays::put;
+use octets::within;
 use packets::Header;
 use packets::Kind;
 use packets::Unwrapped;
@@ -185,7 +185,7 @@ fn unit_numbers(unwrapped: &[u64], room: usize) -> [u64; 2]
 {
     let start = entry(unwrapped, 2);
     let size = entry(unwrapped, 3);
-    if inside(room, start as usize, size as usize) {
+    if within(room, start as usize, size as usize) {
         [start, size]
     } else {
         [0; 2]

@@ -7,10 +7,10 @@ ghost use Rattle.octets.specs.Basics.{pick};
 ghost use Rattle.space.specs.Space.{space-reads, space-writing};
 ghost use Rattle.exports.specs.Left.{left};
 ghost use Rattle.exports.specs.Spaces.{space-numbers, read-space-leaves, header-of, write-space-leaves};
-use crate::arrays::ROOM;
-use crate::arrays::entry;
-use crate::arrays::octet_of;
-use crate::arrays::tell;
+use crate::lent::ROOM;
+use crate::lent::tell;
+use arrays::entry;
+use arrays::octet_of;
 use space::SpaceHeader;
 use space::SpaceRead;
 

@@ -51,7 +51,7 @@ pub fn placed(word: u64, at: Place, value: u64) -> u64
 }
 
 // Whether the n places from `at` lie within `len`.
-fn within(len: usize, at: usize, n: usize) -> bool
+pub fn within(len: usize, at: usize, n: usize) -> bool
     ensures { λ r. ⌜ r ≡ leb (at + n) len ⌝ }
 {
     n <= len && at <= len - n

@@ -12,7 +12,7 @@ use borrow.Author.Tests.{leb-true, le-ltb}
 use Rattle.octets.specs.Basics.{over, laid}
 use Rattle.octets.proofs.Tests.{test}
 use Rattle.octets.proofs.Written.{laid-within, length-over}
-use Rattle.exports.specs.Left.{told, kept}
+use Rattle.arrays.specs.Arrays.{told, kept}
 use Rattle.exports.specs.Channel.{short}
 
 pub long-enough : (settings numbers answer : List ℕ) (room : ℕ) → 5 ≤ length settings → 4 ≤ length numbers → room ≤ length answer

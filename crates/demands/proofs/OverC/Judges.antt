@@ -20,7 +20,8 @@ use Rattle.judge.specs.declared.Judge.{Judge}
 use Rattle.judge.specs.declared.Judge.the-variants.{Open, Sound, Faulty}
 use Rattle.judge.specs.declared.Closed.{Closed}
 use Rattle.judge.proofs.Theorems.{keeps-to-the-test}
-use Rattle.exports.specs.Left.{Left, left, told, kept}
+use Rattle.arrays.specs.Arrays.{told, kept}
+use Rattle.exports.specs.Left.{Left, left}
 use Rattle.exports.specs.Channel.{settings-of}
 use Rattle.exports.specs.Judging.{judge-of, judge-numbers, judge-leaves, close-numbers, close-leaves}
 use Rattle.exports.specs.Statements.{JudgeWords}

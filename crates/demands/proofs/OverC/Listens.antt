@@ -24,7 +24,8 @@ use Rattle.extractor.specs.declared.Found.the-variants.{Refused, InFrame, InSto
 use Rattle.extractor.proofs.Theorems.{keeps-to-the-test}
 use Rattle.extractor.proofs.Turns.{Packed, framed, stored, Turn, leave, keep, break, give, turn}
 use Rattle.extractor.proofs.Unrefused.{moves}
-use Rattle.exports.specs.Left.{Left, left, told, kept}
+use Rattle.arrays.specs.Arrays.{told, kept}
+use Rattle.exports.specs.Left.{Left, left}
 use Rattle.exports.specs.Channel.{settings-of}
 use Rattle.exports.specs.Extract.{extractor-of, extractor-numbers, enter-numbers, enter-leaves, step-numbers, step-leaves}
 use Rattle.exports.specs.Statements.{ExtractorWords}

@@ -23,7 +23,7 @@ use Rattle.extractor.specs.declared.Found.the-variants.{Refused, InFrame, InSto
 use Rattle.extractor.proofs.Places.{ahead}
 use Rattle.extractor.proofs.Turns.{Packed, framed, stored, Turn, leave, keep, break, give, turn}
 use Rattle.extractor.proofs.Unrefused.{moves}
-use Rattle.exports.specs.Left.{told}
+use Rattle.arrays.specs.Arrays.{told}
 use Rattle.exports.specs.Extract.{step-numbers}
 use Rattle.demands.specs.OverC.Listening.{octets-named, Inside}
 use Rattle.demands.proofs.OverC.Arrays.{told-front}

@@ -17,7 +17,8 @@ use Rattle.multiplexer.specs.Multiplex.{begun, mux-reachable, idle-frame}
 use Rattle.multiplexer.specs.Calls.{Call, to-put, to-flush, to-idle, call-rows, call, Answer, answer}
 use Rattle.multiplexer.specs.declared.Mux.{Mux}
 use Rattle.multiplexer.proofs.Putting.{call-reachable}
-use Rattle.exports.specs.Left.{left, told, kept, bit}
+use Rattle.arrays.specs.Arrays.{told, kept, bit}
+use Rattle.exports.specs.Left.{left}
 use Rattle.exports.specs.Channel.{settings-of}
 use Rattle.exports.specs.Mux.{mux-of, mux-numbers, begin-leaves, put-numbers, flush-numbers, no-numbers, mux-leaves}
 use Rattle.exports.specs.Statements.{Word}

@@ -11,7 +11,7 @@ use Rattle.demands.specs.calls.Octets.{Lays, OfOctets}
 use Rattle.demands.proofs.Promised.{left-same, exactly}
 
 -- a call that writes
-lays : (room : Bool) (written : List ℕ) → Lays (as-read (Unit {0}) (λ o. octets.Lays room written (o .answer) (o .lent))) room written
+pub lays : (room : Bool) (written : List ℕ) → Lays (as-read (Unit {0}) (λ o. octets.Lays room written (o .answer) (o .lent))) room written
 lays room written = record {
   free = tt;
   gives = λ o m. left-same o (record { answer = pick room 0 2; lent = written }) (m .answer) (m .left);
@@ -22,6 +22,7 @@ pub of-octets : OfOctets
 of-octets = record {
   field = λ word at. exactly;
   placed = λ word at value. exactly;
+  within = λ len at n. exactly;
   octet = λ κs s at. exactly;
   number2 = λ κs s at. exactly;
   number3 = λ κs s at. exactly;

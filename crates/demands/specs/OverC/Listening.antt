@@ -10,7 +10,8 @@ use Rattle.extractor.specs.Answers.{EnterNumbers}
 use Rattle.extractor.specs.Calls.{event-at, Finds, goes-on, all-said, Listened}
 use Rattle.extractor.specs.declared.Found.{Found}
 use Rattle.extractor.specs.declared.Found.the-variants.{Refused, InFrame, InStore, Damaged, Spent}
-use Rattle.exports.specs.Left.{Left, told}
+use Rattle.arrays.specs.Arrays.{told}
+use Rattle.exports.specs.Left.{Left}
 use Rattle.exports.specs.Channel.{settings-of}
 use Rattle.exports.specs.Extract.{extractor-of, enter-leaves, step-leaves}
 use Rattle.exports.specs.Statements.{part-named}

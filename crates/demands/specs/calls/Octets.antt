@@ -1,14 +1,16 @@
 -- What the public functions of `octets` promise.
-use Prim.Native.Nat.{ℕ, _-_, min}
+use Prim.Native.Nat.{ℕ, _+_, _-_, min}
 use mathlib.Core.Bool.{Bool}
 use mathlib.Core.List.{List}
 use lib.ListN.{getD, replicate}
+use lib.Dec.{leb}
 use contract.Lifetimes.{Lfts}
 use denote.Ref.{now, at-last}
 use Rattle.octets.specs.Basics.{pick, field, placed, number-at, octets, fits, laid, part-fits, laid-part}
 use Rattle.octets.specs.declared.Place.{Place}
 use Rattle.octets.proofs.field.Reads as field-fn
 use Rattle.octets.proofs.placed.Reads as placed-fn
+use Rattle.octets.proofs.within.Reads as within-fn
 use Rattle.octets.proofs.octet.Reads as octet-fn
 use Rattle.octets.proofs.number2.Reads as number2-fn
 use Rattle.octets.proofs.number3.Reads as number3-fn
@@ -33,6 +35,8 @@ pub record OfOctets : Type 0 where
   pub placed : (word : ℕ) (at : Place) (value : ℕ)
       → Is (as-read (placed-fn.Pre tt (word, (at, (value, tt)))) (λ r. placed-fn.Post tt (word, (at, (value, tt))) r (word, (at, (value, tt)))))
       (placed word (at .below) (at .width) value)
+  pub within : (len at n : ℕ)
+      → Is (as-read (within-fn.Pre tt (len, (at, (n, tt)))) (λ r. within-fn.Post tt (len, (at, (n, tt))) r (len, (at, (n, tt))))) (leb (at + n) len)
   pub octet : (κs : Lfts 1) (s : Slice) (at : ℕ)
       → Is (as-read (octet-fn.Pre κs (s, (at, tt))) (λ r. octet-fn.Post κs (s, (at, tt)) r (s, (at, tt)))) (getD (now s) at 0)
   pub number2 : (κs : Lfts 1) (s : Slice) (at : ℕ)

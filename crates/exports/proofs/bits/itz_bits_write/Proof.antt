@@ -24,7 +24,7 @@ returns-2 c =
     write-done (a .settings .now) (a .«record» .now) (a .bits .now) (a .n) (a .frame .now)
     (at-settings .bit-settings-of .result) (at-record .writer-of .result) (at-write .write .result)
     (sym (at-short .bits-short .ensures) ∙ at-if1 .if1 .left) (at-settings .bit-settings-of .ensures) (at-record .writer-of .ensures)
-    (at-write .write .ensures) (at-keep .keep .ensures)
+    (at-write .write .ensures) (at-keep .keep .ensures .1)
 
 pub itz-bits-write-spec : {M : Type 1} → statement M
 itz-bits-write-spec =

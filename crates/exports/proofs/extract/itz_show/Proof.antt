@@ -16,7 +16,7 @@ returns-2 c =
     let at-put = c .before .before in
     let at-numbers = at-put .before .before .before in
     let a = c .before .before .before .before .before .before .before .before .before .before .before .args in
-    rw (at-numbers .before .if1 .left, at-put .put .ensures, at-numbers .show-numbers .ensures (a .frame .now) (a .store .now) refl refl) refl
+    rw (at-numbers .before .if1 .left, at-put .put .ensures .left, at-numbers .show-numbers .ensures (a .frame .now) (a .store .now) refl refl) refl
 
 pub itz-show-spec : {M : Type 1} → statement M
 itz-show-spec =

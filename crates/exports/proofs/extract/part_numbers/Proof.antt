@@ -8,11 +8,11 @@ use Rattle.exports.proofs.extract.part_numbers.Tie as tie
 
 returns : tie.Need-returns
 unfolding part-numbers
-returns c = rw (sym (c .before .inside .ensures) ∙ c .if1 .taken) refl
+returns c = rw (sym (c .before .within .ensures) ∙ c .if1 .taken) refl
 
 returns-2 : tie.Need-returns-2
 unfolding part-numbers
-returns-2 c = rw (sym (c .before .inside .ensures) ∙ c .if1 .left) refl
+returns-2 c = rw (sym (c .before .within .ensures) ∙ c .if1 .left) refl
 
 pub part-numbers-spec : {M : Type 1} → statement M
 part-numbers-spec = tie.close (tie.spec (λ c κs. search needs) returns returns-2)

@@ -25,7 +25,7 @@ returns-2 c =
     judge-done (a .settings .now) (a .«record» .now) (a .store .now) (a .frame .now)
     (at-settings .settings-of .result) (at-record .judge-of .result) (at-frame .frame .result)
     (sym (at-short .is-short .ensures) ∙ at-if1 .if1 .left) (at-settings .settings-of .ensures) (at-record .judge-of .ensures) (at-frame .frame .ensures)
-    (at-numbers .judge-numbers .ensures) (at-keep .keep .ensures)
+    (at-numbers .judge-numbers .ensures) (at-keep .keep .ensures .1)
 
 pub itz-judge-frame-spec : {M : Type 1} → statement M
 itz-judge-frame-spec =

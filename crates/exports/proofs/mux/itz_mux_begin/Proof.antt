@@ -16,7 +16,7 @@ returns-2 c =
     let at-put = c .before .before in
     let at-numbers = at-put .before .before .before in
     let at-begin = at-numbers .before in
-    rw (le-ltb _ _ (at-begin .before .if1 .left), at-put .put .ensures, at-numbers .mux-numbers .ensures, at-begin .begin .ensures)
+    rw (le-ltb _ _ (at-begin .before .if1 .left), at-put .put .ensures .left, at-numbers .mux-numbers .ensures, at-begin .begin .ensures)
 
 pub itz-mux-begin-spec : {M : Type 1} → statement M
 itz-mux-begin-spec =

@@ -33,7 +33,7 @@ returns-2 c =
     mux-done to-idle 0 no-numbers (a .settings .now) (a .«record» .now) (a .frame .now) []
     (at-settings .settings-of .result) (at-record .mux-of .result) (at-call .idle-zone .result)
     (sym (at-short .is-short .ensures) ∙ at-if1 .if1 .left) (at-settings .settings-of .ensures) (at-record .mux-of .ensures) (at-call .idle-zone .ensures)
-    (at-next .next-mux .ensures) (λ frame. ap (λ (ns : List ℕ). getD ns 0 0 ∷ []) (at-said .put-said .ensures frame)) (rw (at-keep .keep .ensures) refl)
+    (at-next .next-mux .ensures) (λ frame. ap (λ (ns : List ℕ). getD ns 0 0 ∷ []) (at-said .put-said .ensures frame)) (rw (at-keep .keep .ensures .1) refl)
 
 pub itz-mux-idle-spec : {M : Type 1} → statement M
 itz-mux-idle-spec =

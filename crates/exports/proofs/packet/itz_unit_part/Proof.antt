@@ -16,7 +16,7 @@ returns-2 c =
     let at-put = c .before .before in
     let at-numbers = at-put .before .before .before in
     let a = c .before .before .before .before .before .before .before .before .before .before .args in
-    rw (at-numbers .before .if1 .left, at-put .put .ensures, at-numbers .unit-numbers .ensures (a .packet .now) refl) refl
+    rw (at-numbers .before .if1 .left, at-put .put .ensures .left, at-numbers .unit-numbers .ensures (a .packet .now) refl) refl
 
 pub itz-unit-part-spec : {M : Type 1} → statement M
 itz-unit-part-spec =

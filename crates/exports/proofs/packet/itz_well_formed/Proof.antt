@@ -26,7 +26,7 @@ returns-2 c =
     let a = at-call .before .before .before .before .args in
     formed-done (a .limit) (a .packet .now) (a .answer .now) (at-call .before .if1 .left)
     (ap (λ (ns : List ℕ). getD ns 0 0) (at-said .header-said .ensures) ∙ ap (λ (x : Reading). x .refusal) (at-call .read-header .ensures))
-    (at-formed .well-formed .ensures) (at-number .formed-number .ensures) (at-put .put .ensures)
+    (at-formed .well-formed .ensures) (at-number .formed-number .ensures) (at-put .put .ensures .left)
 
 pub itz-well-formed-spec : {M : Type 1} → statement M
 itz-well-formed-spec =

@@ -1,4 +1,4 @@
--- `exports::arrays::tell` meets its contract: `put` writes what stands behind the first number.
+-- `exports::lent::tell` meets its contract: `put` writes what stands behind the first number.
 -- Assumes nothing.
 use mathlib.Core.Path.{_≡_, ap, _∙_}
 use mathlib.Core.List.{List}
@@ -6,10 +6,10 @@ use Prim.Native.Nat.{ℕ, _-_}
 use native.Mathlib.Omega.{arith}
 use lib.ListN.{length, take, drop, length-drop}
 use lib.Seq.{take-all}
-use Rattle.exports.specs.Left.{told}
+use Rattle.arrays.specs.Arrays.{told}
 use borrow.Author.Needs.{needs}
-use Rattle.exports.proofs.arrays.tell.Statement.{statement}
-use Rattle.exports.proofs.arrays.tell.Tie as tie
+use Rattle.exports.proofs.lent.tell.Statement.{statement}
+use Rattle.exports.proofs.lent.tell.Tie as tie
 
 behind : (said : List ℕ) → take (length said - 1) (drop 1 said) ≡ drop 1 said
 behind said = take-all (length said - 1) (drop 1 said) (simp length-drop (omega arith))
@@ -17,7 +17,7 @@ behind said = take-all (length said - 1) (drop 1 said) (simp length-drop (omega 
 returns : tie.Need-returns
 returns c =
     let a = c .before .before .before .before .before .before .before .before .args in
-    (search needs, c .before .before .before .put .ensures ∙ ap (told (a .answer .now)) (behind (a .said .now)))
+    (search needs, c .before .before .before .put .ensures .left ∙ ap (told (a .answer .now)) (behind (a .said .now)))
 
 pub tell-spec : {M : Type 1} → statement M
 tell-spec =

@@ -1,10 +1,10 @@
--- `exports::arrays::entry` meets its contract: past the end `getD` is 0.
+-- `arrays::entry` meets its contract: past the end `getD` is 0.
 -- Assumes nothing.
 use mathlib.Core.Path.{sym}
 use lib.ListN.{List·getD-eq-default}
 use borrow.Author.Needs.{needs}
-use Rattle.exports.proofs.arrays.entry.Statement.{statement}
-use Rattle.exports.proofs.arrays.entry.Tie as tie
+use Rattle.arrays.proofs.entry.Statement.{statement}
+use Rattle.arrays.proofs.entry.Tie as tie
 
 returns-2 : tie.Need-returns-2
 returns-2 c = sym (List·getD-eq-default (c .before .args .numbers .now) 0 (c .if1 .left))

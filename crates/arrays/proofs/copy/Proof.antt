@@ -1,4 +1,4 @@
--- `exports::arrays::copy` meets its contract: after i turns the first i numbers are written over.
+-- `arrays::copy` meets its contract: after i turns the first i numbers are written over.
 -- Assumes nothing.
 use mathlib.Core.Path.{_≡_, refl, sym, ap, subst, _∙_}
 use Prim.Native.Nat.{ℕ, _+_, _-_, _≤_}
@@ -7,8 +7,8 @@ use native.Mathlib.Omega.{arith}
 use lib.ListN.{length, getD, set, length-set}
 use lib.Seq.{paste, paste-zero}
 use Rattle.octets.proofs.Written.{paste-all, paste-more}
-use Rattle.exports.proofs.arrays.copy.Statement.{statement}
-use Rattle.exports.proofs.arrays.copy.Tie as tie
+use Rattle.arrays.proofs.copy.Statement.{statement}
+use Rattle.arrays.proofs.copy.Tie as tie
 
 abbrev Inv-loop : tie.InvT-loop
 Inv-loop array₀ numbers i₀ array i = (i ≤ length numbers) × ((length array ≡ length array₀) × (array ≡ paste array₀ 0 numbers i))

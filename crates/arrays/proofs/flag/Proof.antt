@@ -1,12 +1,12 @@
--- `exports::arrays::flag` meets its contract: the cast makes 1 of yes and 0 of no.
+-- `arrays::flag` meets its contract: the cast makes 1 of yes and 0 of no.
 -- Assumes nothing.
 use mathlib.Core.Path.{_≡_, refl}
 use mathlib.Core.Bool.{Bool, true, false}
 use mir.Val.{boolByte}
-use Rattle.exports.specs.Left.{bit}
+use Rattle.arrays.specs.Arrays.{bit}
 use borrow.Author.Needs.{needs}
-use Rattle.exports.proofs.arrays.flag.Statement.{statement}
-use Rattle.exports.proofs.arrays.flag.Tie as tie
+use Rattle.arrays.proofs.flag.Statement.{statement}
+use Rattle.arrays.proofs.flag.Tie as tie
 
 as-bit : (t : Bool) → boolByte t ≡ bit t
 as-bit true = refl
