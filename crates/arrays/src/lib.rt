@@ -6,6 +6,11 @@ ghost use Rattle.octets.specs.Basics.{over, fits, Lays};
 ghost use Rattle.arrays.specs.Arrays.{told, kept, handed-on, bit, octet-of, count-of};
 use octets::refusals;
 
+// The greatest octet, and the greatest number of 32 bits.
+const MOST_OCTET: u8 = 255;
+
+pub const MOST_COUNT: u32 = 4294967295;
+
 // A yes or no as a number.
 pub fn flag(yes: bool) -> u64
     ensures { λ r. ⌜ r ≡ bit yes ⌝ }
@@ -17,16 +22,20 @@ pub fn flag(yes: bool) -> u64
 pub fn octet_of(number: u64) -> u8
     ensures { λ r. ⌜ r ≡ octet-of number ⌝ }
 {
-    if number < 255 { number as u8 } else { 255 }
+    if number < MOST_OCTET as u64 {
+        number as u8
+    } else {
+        MOST_OCTET
+    }
 }
 
 pub fn count_of(number: u64) -> u32
     ensures { λ r. ⌜ r ≡ count-of number ⌝ }
 {
-    if number < 4294967295 {
+    if number < MOST_COUNT as u64 {
         number as u32
     } else {
-        4294967295
+        MOST_COUNT
     }
 }
 

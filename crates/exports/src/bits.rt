@@ -13,6 +13,7 @@ use crate::channel::link_of;
 use crate::channel::zone_for;
 use crate::lent::ROOM;
 use crate::lent::leave;
+use arrays::MOST_COUNT;
 use arrays::count_of;
 use arrays::entry;
 use arrays::flag;
@@ -24,7 +25,9 @@ use bitstream::Writer;
 use frames::ZONE_AT;
 use frames::bits::BitSettings;
 
-// The entries of each record, and of the answer.
+// The entries of the settings, of each record, and of the answer.
+const BIT_SETTINGS_ENTRIES: usize = 4;
+
 const WRITER_ENTRIES: usize = 1;
 
 const READER_ENTRIES: usize = 2;
@@ -35,7 +38,7 @@ const BITS_ENTRIES: usize = 6;
 fn bits_short(settings: usize, record: usize, kept: usize, answer: usize, room: usize) -> bool
     ensures { λ r. ⌜ r ≡ bits-short settings «record» kept answer room ⌝ }
 {
-    (settings < 4) | ((record < kept) | (answer < room))
+    (settings < BIT_SETTINGS_ENTRIES) | ((record < kept) | (answer < room))
 }
 
 fn bit_settings_of(numbers: &[u64]) -> BitSettings
@@ -83,7 +86,7 @@ pub extern "C" fn itz_bits_write(
 fn unread() -> Reader
     ensures { λ r. ⌜ r ≡ unread ⌝ }
 {
-    Reader::Last { count: 4294967295 }
+    Reader::Last { count: MOST_COUNT }
 }
 
 // The record with these numbers; a last count that is not used is 0.
@@ -126,8 +129,8 @@ fn bits_at(refusal: u8) -> u64
 }
 
 // The refusal, and the numbers of the answer behind it.
-fn read_said(reading: Reading, octets: usize) -> [u64; 7]
-    ensures { λ r. ⌜ ((s : BitSettings) (frame : List ℕ) → octets ≡ length (leading-octets s (reading .bits) frame) → r ≡ reading .refusal ∷ read-numbers s frame reading) ⌝ }
+fn read_said(reading: Reading, size: usize) -> [u64; 7]
+    ensures { λ r. ⌜ ((s : BitSettings) (frame : List ℕ) → size ≡ length (leading-octets s (reading .bits) frame) → r ≡ reading .refusal ∷ read-numbers s frame reading) ⌝ }
 {
     [
         reading.refusal as u64,
@@ -136,7 +139,7 @@ fn read_said(reading: Reading, octets: usize) -> [u64; 7]
         flag(reading.lost),
         reading.bits as u64,
         bits_at(reading.refusal),
-        octets as u64,
+        size as u64,
     ]
 }
 
@@ -161,8 +164,8 @@ pub extern "C" fn itz_bits_read(
     let settings = bit_settings_of(settings);
     let reading = bitstream::read(settings, reader_of(record), frame);
     let reader = reading.reader;
-    let octets = bitstream::leading_octets(settings, reading.bits, frame).len();
+    let size = bitstream::leading_octets(settings, reading.bits, frame).len();
     let state = reader_numbers(reader);
-    let said = read_said(reading, octets);
+    let said = read_said(reading, size);
     leave(record, &state, answer, &said)
 }

@@ -7,11 +7,16 @@ use arrays::octet_of;
 use frames::Link;
 use frames::Settings;
 
+// The entries of the settings, and of a record.
+const SETTINGS_ENTRIES: usize = 5;
+
+pub(crate) const RECORD_ENTRIES: usize = 4;
+
 // Whether an array is short: of settings, of a record, or of an answer that has so many numbers.
 pub(crate) fn is_short(settings: usize, record: usize, answer: usize, room: usize) -> bool
     ensures { λ r. ⌜ r ≡ short settings «record» answer room ⌝ }
 {
-    (settings < 5) | ((record < 4) | (answer < room))
+    (settings < SETTINGS_ENTRIES) | ((record < RECORD_ENTRIES) | (answer < room))
 }
 
 // The octets of a zone, none where the fill is no octet.

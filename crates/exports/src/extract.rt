@@ -10,6 +10,7 @@ use crate::channel::is_short;
 use crate::channel::settings_of;
 use crate::lent::ROOM;
 use crate::lent::leave;
+use arrays::MOST_COUNT;
 use arrays::count_of;
 use arrays::entry;
 use arrays::put;
@@ -46,7 +47,7 @@ const IN_STORE: u64 = 2;
 fn unreached() -> Extractor
     ensures { λ r. ⌜ r ≡ unreached ⌝ }
 {
-    Extractor::Astray { last: 4294967295 }
+    Extractor::Astray { last: MOST_COUNT }
 }
 
 // The record of a kind with these numbers, from the kind that uses all of them to the one that uses none; those not used are 0.

@@ -6,6 +6,7 @@ ghost use Rattle.octets.specs.Basics.{pick};
 ghost use Rattle.multiplexer.specs.Calls.{to-put, to-flush, to-idle, answers};
 ghost use Rattle.exports.specs.Left.{left};
 ghost use Rattle.exports.specs.Mux.{mux-of, mux-numbers, begin-leaves, put-numbers, flush-numbers, no-numbers, mux-leaves};
+use crate::channel::RECORD_ENTRIES;
 use crate::channel::is_short;
 use crate::channel::settings_of;
 use crate::lent::ROOM;
@@ -18,9 +19,7 @@ use arrays::put;
 use multiplexer::Mux;
 use multiplexer::Reply;
 
-// The entries of the record, and of each answer.
-const MUX_ENTRIES: usize = 4;
-
+// The entries of each answer.
 const PUT_ENTRIES: usize = 2;
 
 const FLUSH_ENTRIES: usize = 1;
@@ -56,7 +55,7 @@ fn mux_numbers(m: Mux) -> [u64; 4]
 pub extern "C" fn itz_mux_begin(record: &mut [u64]) -> u64
     ensures { λ r. ⌜ left r (now («record» .exit)) [] [] ≡ begin-leaves (now («record» .entry)) ⌝ }
 {
-    if record.len() < MUX_ENTRIES {
+    if record.len() < RECORD_ENTRIES {
         return ROOM;
     }
     let numbers = mux_numbers(multiplexer::begin());

@@ -85,13 +85,13 @@ fn header_said(header: Header) -> [u64; 7]
 }
 
 #[no_mangle]
-pub extern "C" fn itz_read_header(limit: u64, octets: &[u8], answer: &mut [u64]) -> u64
-    ensures { λ r. ⌜ left r [] [] (now (answer .exit)) ≡ header-leaves limit (now (octets .entry)) (now (answer .entry)) ⌝ }
+pub extern "C" fn itz_read_header(limit: u64, front: &[u8], answer: &mut [u64]) -> u64
+    ensures { λ r. ⌜ left r [] [] (now (answer .exit)) ≡ header-leaves limit (now (front .entry)) (now (answer .entry)) ⌝ }
 {
     if answer.len() < HEADER_ENTRIES {
         return ROOM;
     }
-    let said = header_said(packets::read_header(limit as usize, octets));
+    let said = header_said(packets::read_header(limit as usize, front));
     tell(answer, &said)
 }
 

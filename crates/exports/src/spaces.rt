@@ -19,6 +19,12 @@ const SPACE_ENTRIES: usize = 8;
 
 const HEADER_ENTRIES: usize = 7;
 
+// The greatest number of 16 bits.
+const MOST_HALF: u64 = 65535;
+
+// The greatest octet: no version.
+const MOST_OCTET: u8 = 255;
+
 // What the length field says less than the packet's length.
 const LENGTH_LESS: u64 = 7;
 
@@ -43,13 +49,13 @@ fn space_said(read: SpaceRead) -> [u64; 9]
 }
 
 #[no_mangle]
-pub extern "C" fn itz_read_space(octets: &[u8], answer: &mut [u64]) -> u64
-    ensures { λ r. ⌜ left r [] [] (now (answer .exit)) ≡ read-space-leaves (now (octets .entry)) (now (answer .entry)) ⌝ }
+pub extern "C" fn itz_read_space(packet: &[u8], answer: &mut [u64]) -> u64
+    ensures { λ r. ⌜ left r [] [] (now (answer .exit)) ≡ read-space-leaves (now (packet .entry)) (now (answer .entry)) ⌝ }
 {
     if answer.len() < SPACE_ENTRIES {
         return ROOM;
     }
-    let said = space_said(space::read_space(octets));
+    let said = space_said(space::read_space(packet));
     tell(answer, &said)
 }
 
@@ -57,23 +63,27 @@ pub extern "C" fn itz_read_space(octets: &[u8], answer: &mut [u64]) -> u64
 fn half_of(number: u64) -> u16
     ensures { λ r. ⌜ r ≡ min number 65535 ⌝ }
 {
-    if number < 65535 { number as u16 } else { 65535 }
+    if number < MOST_HALF {
+        number as u16
+    } else {
+        MOST_HALF as u16
+    }
 }
 
 // The version: none that can be written, where the length field has no room for its number.
 fn version_for(version: u64, length: u64) -> u8
     ensures { λ r. ⌜ r ≡ pick (leb length 65535) (min version 255) 255 ⌝ }
 {
-    if length <= 65535 {
+    if length <= MOST_HALF {
         octet_of(version)
     } else {
-        255
+        MOST_OCTET
     }
 }
 
 // The header with these fields; one that does not fit is a field out of range.
 fn header_of(numbers: &[u64]) -> SpaceHeader
-    ensures { λ r. ⌜ ((octets : List ℕ) → space-writing r octets ≡ space-writing (header-of (now (numbers .entry))) octets) ⌝ }
+    ensures { λ r. ⌜ ((packet : List ℕ) → space-writing r packet ≡ space-writing (header-of (now (numbers .entry))) packet) ⌝ }
 {
     let length = entry(numbers, 6);
     SpaceHeader {
@@ -88,11 +98,11 @@ fn header_of(numbers: &[u64]) -> SpaceHeader
 }
 
 #[no_mangle]
-pub extern "C" fn itz_write_space(header: &[u64], octets: &mut [u8]) -> u64
-    ensures { λ r. ⌜ left r [] (now (octets .exit)) [] ≡ write-space-leaves (now (header .entry)) (now (octets .entry)) ⌝ }
+pub extern "C" fn itz_write_space(header: &[u64], packet: &mut [u8]) -> u64
+    ensures { λ r. ⌜ left r [] (now (packet .exit)) [] ≡ write-space-leaves (now (header .entry)) (now (packet .entry)) ⌝ }
 {
     if header.len() < HEADER_ENTRIES {
         return ROOM;
     }
-    space::write_space(header_of(header), octets) as u64
+    space::write_space(header_of(header), packet) as u64
 }

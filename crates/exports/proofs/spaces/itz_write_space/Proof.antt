@@ -21,7 +21,7 @@ returns-2 c =
     let at-header = at-call .before .before in
     let a = at-header .before .before .before .before .args in
     rw (le-ltb _ _ (at-header .before .if1 .left))
-    (ap (λ (w : SpaceWriting). left (w .refusal) [] (w .output) []) (at-call .write-space .ensures ∙ at-header .header-of .ensures (a .octets .now)))
+    (ap (λ (w : SpaceWriting). left (w .refusal) [] (w .output) []) (at-call .write-space .ensures ∙ at-header .header-of .ensures (a .packet .now)))
 
 pub itz-write-space-spec : {M : Type 1} → statement M
 itz-write-space-spec =
@@ -31,5 +31,5 @@ itz-write-space-spec =
     (λ c κs. search needs)
     (λ c κs. search needs)
     (λ c. search needs)
-    (λ c. c .before .octets .given)
+    (λ c. c .before .packet .given)
     returns-2)
