@@ -4,14 +4,13 @@ ghost use Prim.Native.Nat.{_≤_};
 ghost use Rattle.octets.specs.Basics.{first, over};
 ghost use Rattle.frames.specs.Link.{zone-at, next-count};
 ghost use Rattle.bitstream.specs.Bitstream.{octets-for, pointer-for, valid-bits, mixed, zone-with, begun, writer-reachable, write-rows, wrote, written, reader-reachable, loss-flag, no-reading, reading, leading-octets, Fits};
-use frames::REFUSED_ROOM;
-use frames::REFUSED_SETTING;
 use frames::WHEEL;
 use frames::ZONE_AT;
 use frames::bits::ALL_VALID;
 use frames::bits::BitSettings;
 use frames::bits::FILL_ONLY;
 use octets::Place;
+use octets::refusals;
 
 // What a writer keeps between calls: the count of the next frame.
 pub struct Writer {
@@ -41,9 +40,6 @@ pub struct Reading {
     pub lost: bool,
     pub reader: Reader,
 }
-
-// No calls lead to the record.
-const REFUSED_RECORD: u8 = 10;
 
 // A writer that has written nothing.
 pub fn begin() -> Writer
@@ -118,13 +114,13 @@ fn write_refusal(s: BitSettings, w: Writer, n: usize, lent: usize, room: usize) 
 {
     let needed = octets_for(n);
     if !(frames::bits::in_range(s) & (needed <= s.width)) {
-        return REFUSED_SETTING;
+        return refusals::SETTING;
     }
     if frames::bits::is_short(s, room) | (lent < needed) {
-        return REFUSED_ROOM;
+        return refusals::ROOM;
     }
     if !writer_reachable(s, w) {
-        return REFUSED_RECORD;
+        return refusals::RECORD;
     }
     0
 }
@@ -199,10 +195,10 @@ pub fn read(s: BitSettings, x: Reader, frame: &[u8]) -> Reading
     ensures { λ r. ⌜ r ≡ reading s x (now (frame .entry)) ⌝ }
 {
     if !frames::bits::in_range(s) {
-        return refused(REFUSED_SETTING, x);
+        return refused(refusals::SETTING, x);
     }
     if !reader_reachable(s, x) {
-        return refused(REFUSED_RECORD, x);
+        return refused(refusals::RECORD, x);
     }
     let head = frames::bits::read_head(s, frame);
     if head.refusal != 0 {

@@ -10,11 +10,10 @@ ghost use Rattle.multiplexer.specs.Calls.{to-put, to-flush, to-idle, doi
 ghost use Rattle.multiplexer.specs.Laying.{Fills, Counted, PacketLaid};
 use frames::IDLE_ZONE;
 use frames::NO_START;
-use frames::REFUSED_ROOM;
-use frames::REFUSED_SETTING;
 use frames::Settings;
 use frames::WHEEL;
 use frames::ZONE_AT;
+use octets::refusals;
 
 // What a multiplexer keeps between calls.
 pub struct Mux {
@@ -35,15 +34,6 @@ pub enum Reply {
     // Whether the zone is full, and whether the packet is taken; both may hold.
     Done { full: bool, taken: bool, mux: Mux },
 }
-
-// The packet is not well formed.
-const REFUSED_PACKET: u8 = 8;
-
-// It is the wrong moment for the call.
-const REFUSED_MOMENT: u8 = 9;
-
-// No calls lead to the record.
-const REFUSED_RECORD: u8 = 10;
 
 // The first record.
 pub fn begin() -> Mux
@@ -73,13 +63,13 @@ fn lent_refusal(s: Settings, m: Mux, room: usize) -> u8
     ensures { λ r. ⌜ r ≡ first (lent-rows s m room) ⌝ }
 {
     if !frames::in_range(s) {
-        return REFUSED_SETTING;
+        return refusals::SETTING;
     }
     if frames::is_short(s, room) {
-        return REFUSED_ROOM;
+        return refusals::ROOM;
     }
     if !mux_reachable(s, m) {
-        return REFUSED_RECORD;
+        return refusals::RECORD;
     }
     0
 }
@@ -93,10 +83,10 @@ fn put_refusal(s: Settings, m: Mux, p: &[u8], room: usize) -> u8
         return lent;
     }
     if (0 < m.taken) & (p.len() <= m.taken) {
-        return REFUSED_MOMENT;
+        return refusals::MOMENT;
     }
     if !packets::well_formed(s.limit, p) {
-        return REFUSED_PACKET;
+        return refusals::PACKET;
     }
     0
 }
@@ -109,7 +99,7 @@ fn flush_refusal(s: Settings, m: Mux, room: usize) -> u8
         return lent;
     }
     if 0 < m.taken {
-        return REFUSED_MOMENT;
+        return refusals::MOMENT;
     }
     0
 }
@@ -122,7 +112,7 @@ fn idle_refusal(s: Settings, m: Mux, room: usize) -> u8
         return lent;
     }
     if (0 < m.taken) | (0 < m.filled) {
-        return REFUSED_MOMENT;
+        return refusals::MOMENT;
     }
     0
 }

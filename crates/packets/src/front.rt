@@ -12,6 +12,7 @@ use super::LENGTH_OF_LENGTH;
 use super::PROTOCOL;
 use super::VERSION;
 use super::header_length;
+use octets::refusals;
 
 // The longest idle packet: two octets state its length.
 const MOST_IDLE: usize = 65535;
@@ -66,10 +67,10 @@ fn idle_refusal(r: usize, room: usize) -> u8
     ensures { λ n. ⌜ n ≡ first (idle-packet-rows r room) ⌝ }
 {
     if (r == 0) | (MOST_IDLE < r) {
-        return 1;
+        return refusals::SETTING;
     }
     if room < r {
-        return 2;
+        return refusals::ROOM;
     }
     0
 }

@@ -6,6 +6,7 @@ ghost use Rattle.octets.specs.Basics.{and, read, number-at};
 ghost use Rattle.packets.specs.Packet.{whole, limit-in-range, apid, OfAKind, packet-version, protocol-of, length-of-length, header-length, sized, counted, encapsulation, look, is-idle, well-formed};
 ghost use Rattle.packets.specs.Header.{seen, told, reading, answer};
 use octets::Place;
+use octets::refusals;
 
 mod front;
 mod wrapping;
@@ -235,7 +236,9 @@ pub fn read_header(limit: usize, octets: &[u8]) -> Header
     ensures { λ r. ⌜ answer r ≡ reading limit (now (octets .entry)) ⌝ }
 {
     if !in_range(limit) {
-        return Header::Refused { refusal: 1 };
+        return Header::Refused {
+            refusal: refusals::SETTING,
+        };
     }
     match read_length(limit, octets) {
         Seen::More => Header::More,

@@ -12,6 +12,7 @@ use super::length_of_length;
 use super::octet_field;
 use super::protocol;
 use super::version;
+use octets::refusals;
 
 // What comes of wrapping a data unit.
 pub enum Wrapped {
@@ -72,13 +73,13 @@ fn wrap_refusal(
     ensures { λ r. ⌜ r ≡ first (wrap-rows limit protocol extension n total room) ⌝ }
 {
     if !wrap_in_range(limit, protocol, extension) {
-        return 1;
+        return refusals::SETTING;
     }
     if (n == 0) | (limit < total) {
-        return 8;
+        return refusals::PACKET;
     }
     if room < total {
-        return 2;
+        return refusals::ROOM;
     }
     0
 }
@@ -124,13 +125,13 @@ fn unwrap_refusal(limit: usize, p: &[u8]) -> u8
     ensures { λ r. ⌜ r ≡ first (unwrap-rows limit (now (p .entry))) ⌝ }
 {
     if !in_range(limit) {
-        return 1;
+        return refusals::SETTING;
     }
     if !formed(limit, p) | (version(p) == 0) {
-        return 8;
+        return refusals::PACKET;
     }
     if ((extension(p) != 0) & (protocol(p) != 6)) | (reserved(p) != 0) {
-        return 6;
+        return refusals::SPARE;
     }
     0
 }

@@ -4,6 +4,7 @@ ghost use Prim.Native.Nat.{_≤_};
 ghost use Rattle.octets.specs.Basics.{read};
 ghost use Rattle.space.specs.Space.{space-word, space-in-range, space-reading, space-reads, space-writes, space-writing};
 use octets::Place;
+use octets::refusals;
 
 // The seven fields.
 pub struct SpaceHeader {
@@ -21,15 +22,6 @@ pub enum SpaceRead {
     Refused { refusal: u8 },
     Read { header: SpaceHeader },
 }
-
-// A field is out of range.
-const REFUSED_SETTING: u8 = 1;
-
-// The lent output is too short.
-const REFUSED_ROOM: u8 = 2;
-
-// The octets begin no space packet.
-const REFUSED_PACKET: u8 = 8;
 
 // The header's octets.
 const HEADER: usize = 6;
@@ -94,7 +86,7 @@ pub fn read_space(octets: &[u8]) -> SpaceRead
     let version = narrow(word, VERSION);
     if (octets.len() < HEADER) | (version != 0) {
         return SpaceRead::Refused {
-            refusal: REFUSED_PACKET,
+            refusal: refusals::PACKET,
         };
     }
     let header = SpaceHeader {
@@ -136,10 +128,10 @@ pub fn write_space(h: SpaceHeader, out: &mut [u8]) -> u8
     ensures { λ r. ⌜ space-writes r (now (out .exit)) ≡ space-writing h (now (out .entry)) ⌝ }
 {
     if !in_range(h) {
-        return REFUSED_SETTING;
+        return refusals::SETTING;
     }
     if out.len() < HEADER {
-        return REFUSED_ROOM;
+        return refusals::ROOM;
     }
     octets::put(out, 0, HEADER, word_of(h));
     0
