@@ -1,11 +1,11 @@
 -- What the rules compute with, crate by crate: to unfold one of these is to unfold all that its line names.
 -- Assumes nothing.
-use Rattle.octets.specs.Basics.{number-from, number, octets, field, join, placed, part, over, first, number-at, laid, laid-part}
+use Rattle.octets.specs.Basics.{number-from, number, octets, field, join, placed, part, over, first, number-at, part-of, laid, laid-part}
 use Rattle.packets.specs.Packet.{limit-in-range, sized, counted, space, header-length, encapsulation, look, states, well-formed, is-idle, key-of, size-of}
 use Rattle.packets.specs.Header.{told, reading, version-of, answer}
 use Rattle.packets.specs.Front.{first-octet, second-octet, front}
 use Rattle.packets.specs.Idle.{idle-header, idle-packet, idle-packet-rows}
-use Rattle.packets.specs.Wrap.{lol-for, wrapped-total, wrapped, wrap-in-range, wrap-rows, wrapping, wraps, extension-of, reserved-of, unwrap-rows, unwrapping, unwraps, run-of, unit-part}
+use Rattle.packets.specs.Wrap.{lol-for, wrapped-total, wrapped, wrap-in-range, wrap-rows, wrapping, wraps, extension-of, reserved-of, unwrap-rows, unwrapping, unwraps, unit-part}
 use Rattle.space.specs.Space.{space-fields, space-word, space-in-range, space-read-rows, space-reading, space-reads, space-rows, space-writing}
 use Rattle.frames.specs.Link.{link-in-range, primary, zone-head, header-rows, written-rows, head-word, headers, count-width, next-count, missing}
 use Rattle.frames.specs.Frame.{in-range, frame-length, zone-of, unused, frame-rows, heading-rows, heading-of, heading, head, head-rows}
@@ -13,7 +13,7 @@ use Rattle.frames.specs.BitFrame.{bits-in-range, bit-frame-length, bit-zone-of,
 use Rattle.multiplexer.specs.Multiplex.{mux-reachable, put-rows, filled-frame, filled-mux, start-now, fits-now, put, flush-rows, flush, idle-rows, idle-frame}
 use Rattle.multiplexer.specs.Calls as multiplexer
 use Rattle.extractor.specs.Extract.{agreed-look, agreed, reason-by, reason-in, lost-since, reason-of, step-of, walked, walk, walk-turns, walk-look, take-in}
-use Rattle.extractor.specs.Records.{unfinished, holds-well, reachable, is-entered, stands-for, enter-rows, set-off, enter, step-rows, handed-over, step-look, step, step-call, part-of, shown}
+use Rattle.extractor.specs.Records.{unfinished, holds-well, reachable, is-entered, stands-for, enter-rows, set-off, enter, step-rows, handed-over, step-look, step, step-call, shown}
 use Rattle.extractor.specs.Answers.{entered-numbers, enter-answer, found-numbers, step-answer}
 use Rattle.extractor.specs.Calls.{event-at, steps}
 use Rattle.judge.specs.Judge.{is-fault, faulty-entry}
@@ -33,7 +33,7 @@ use Rattle.exports.specs.Judging.{judge-numbers, judge-with, judge-leaves, clos
 use Rattle.exports.specs.Bits.{bits-short, bit-settings-of, writer-of, write-leaves, reader-numbers, reader-with, read-numbers, read-leaves}
 
 unfoldable pub packets : Unit {0}
-unfolding number-from number octets field join placed part over first number-at laid laid-part limit-in-range sized counted space header-length encapsulation look states well-formed is-idle key-of size-of told reading version-of answer first-octet second-octet front idle-header idle-packet idle-packet-rows lol-for wrapped-total wrapped wrap-in-range wrap-rows wrapping wraps extension-of reserved-of unwrap-rows unwrapping unwraps run-of unit-part space-fields space-word space-in-range space-read-rows space-reading space-reads space-rows space-writing
+unfolding number-from number octets field join placed part over first number-at part-of laid laid-part limit-in-range sized counted space header-length encapsulation look states well-formed is-idle key-of size-of told reading version-of answer first-octet second-octet front idle-header idle-packet idle-packet-rows lol-for wrapped-total wrapped wrap-in-range wrap-rows wrapping wraps extension-of reserved-of unwrap-rows unwrapping unwraps unit-part space-fields space-word space-in-range space-read-rows space-reading space-reads space-rows space-writing
 packets = tt
 
 unfoldable pub frames : Unit {0}
@@ -45,7 +45,7 @@ unfolding frames mux-reachable put-rows filled-frame filled-mux start-now fits-n
 multiplexing = tt
 
 unfoldable pub extracting : Unit {0}
-unfolding frames agreed-look agreed reason-by reason-in lost-since reason-of step-of walked walk walk-turns walk-look take-in unfinished holds-well reachable is-entered stands-for enter-rows set-off enter step-rows handed-over step-look step step-call part-of shown entered-numbers enter-answer found-numbers step-answer event-at steps
+unfolding frames agreed-look agreed reason-by reason-in lost-since reason-of step-of walked walk walk-turns walk-look take-in unfinished holds-well reachable is-entered stands-for enter-rows set-off enter step-rows handed-over step-look step step-call shown entered-numbers enter-answer found-numbers step-answer event-at steps
 extracting = tt
 
 unfoldable pub judging : Unit {0}

@@ -3,16 +3,16 @@
 use mathlib.Core.Path.{_≡_, refl, sym, ap, _∙_}
 use mathlib.Core.List.{List, [], _∷_}
 use mathlib.Core.Bool.{Bool, true, false}
-use Prim.Native.Nat.{ℕ, _+_, _-_, _≤_, min}
+use Prim.Native.Nat.{ℕ, _+_, _≤_, min}
 use native.Mathlib.Omega.{arith}
 use lib.ListN.{length, take, drop}
 use lib.Dec.{leb}
-use Rattle.octets.specs.Basics.{pick, over, part}
+use Rattle.octets.specs.Basics.{pick, part-of, over}
 use Rattle.octets.proofs.Written.{laid-within}
-use Rattle.packets.specs.Wrap.{unwraps, run-of, unit-part}
+use Rattle.packets.specs.Wrap.{unwraps, unit-part}
 use Rattle.packets.specs.declared.wrapping.Unwrapped.{Unwrapped}
 use Rattle.multiplexer.specs.declared.Mux.{Mux}
-use Rattle.extractor.specs.Records.{part-of, shown}
+use Rattle.extractor.specs.Records.{shown}
 use Rattle.extractor.specs.Answers.{packet-or-idle, found-numbers}
 use Rattle.extractor.specs.declared.Found.{Found}
 use Rattle.extractor.specs.declared.Extractor.{Extractor}
@@ -63,11 +63,6 @@ none-by : (inside : Bool) (packet : List ℕ) → unit-named packet (pick inside
 none-by true packet = refl
 none-by false packet = refl
 
-run-is : (packet : List ℕ) (start size : ℕ)
-    → run-of packet start size ≡ pick (leb (start + size) (length packet)) (take size (drop start packet)) []
-unfolding run-of part
-run-is packet start size = let e : start + size - start ≡ size = omega arith in rw e refl
-
 module _ (array : List ℕ) where
   laid-there : (numbers : List ℕ) → length numbers ≤ length array → told array numbers ≡ over array 0 numbers
   laid-there numbers h = laid-within array 0 numbers (omega arith)
@@ -104,11 +99,11 @@ module _ (array : List ℕ) where
 
   unit-named-by : (u : Unwrapped) (packet : List ℕ) → 4 ≤ length array
       → unit-named packet (unit-numbers (told array (unwrap-numbers (unwraps u))) packet) ≡ unit-part packet u
-  unfolding unit-numbers unwrap-numbers unwraps unit-part over
+  unfolding unit-numbers unwrap-numbers unwraps unit-part part-of over
   unit-named-by (Unwrapped.Refused n) packet h = rw (laid-there (0 ∷ 0 ∷ 0 ∷ 0 ∷ []) h) (none-by (leb 0 (length packet)) packet)
   unit-named-by (Unwrapped.Unit protocol extension start size) packet h =
       rw (laid-there (protocol ∷ extension ∷ start ∷ size ∷ []) h)
-      (unit-by (leb (start + size) (length packet)) packet start size ∙ sym (run-is packet start size))
+      (unit-by (leb (start + size) (length packet)) packet start size)
 
   step-named-by : (found : Found) (frame store : List ℕ) → 4 ≤ length array
       → part-named frame store (show-numbers (told array (step-numbers (found-numbers frame store found))) frame store) ≡ shown frame store found

@@ -6,7 +6,7 @@ use Prim.Native.Nat.{ℕ}
 use native.Mathlib.Omega.{arith}
 use lib.ListN.{length}
 use borrow.Author.Tests.{le-leb}
-use Rattle.extractor.specs.Records.{part-of}
+use Rattle.octets.specs.Basics.{part-of}
 
 -- no octets are an empty part
 pub no-part : (os : List ℕ) → part-of os 0 0 ≡ []

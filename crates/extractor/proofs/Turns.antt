@@ -10,7 +10,7 @@ use lib.ListN.{length, take, drop, length-append, length-drop}
 use lib.Seq.{length-take-le, take-at, drop-drop, take-append-add, drop-append-add}
 use lib.Dec.{leb}
 use borrow.Author.Tests.{ltb-true, leb-true, leb-false, lt-ltb, le-leb, ne-eqb}
-use Rattle.octets.specs.Basics.{over}
+use Rattle.octets.specs.Basics.{part-of, over}
 use Rattle.octets.proofs.Choices.{apart}
 use Rattle.octets.proofs.Fronts.{over-front, length-front-over, drop-front-over}
 use Rattle.octets.proofs.Tests.{test}
@@ -22,7 +22,7 @@ use Rattle.frames.specs.Link.{zone-at}
 use Rattle.frames.specs.declared.Settings.{Settings}
 use Rattle.frames.proofs.Accepted.{zone-is, length-zone}
 use Rattle.frames.proofs.Settled.{settled}
-use Rattle.extractor.specs.Records.{unfinished, reachable, is-entered, Stepped, steps-to, kept-for-later, handed-over, step-look, step, part-of, shown}
+use Rattle.extractor.specs.Records.{unfinished, reachable, is-entered, Stepped, steps-to, kept-for-later, handed-over, step-look, step, shown}
 use Rattle.extractor.specs.declared.Extractor.{Extractor}
 use Rattle.extractor.specs.declared.Extractor.the-variants.{Fresh, Astray, InStep, Walking, Leaving}
 use Rattle.extractor.specs.declared.Found.{Found}

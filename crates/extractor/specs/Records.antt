@@ -5,7 +5,7 @@ use mathlib.Core.Option.{Option, none, some}
 use mathlib.Core.Bool.{Bool, true, false, not}
 use lib.ListN.{length, take, drop}
 use lib.Dec.{leb, ltb, eqb}
-use Rattle.octets.specs.Basics.{pick, and, or, over, first, Row, row}
+use Rattle.octets.specs.Basics.{pick, and, or, part-of, over, first, Row, row}
 use Rattle.packets.specs.Packet.{Look, more, damaged, whole, look, is-idle}
 use Rattle.frames.specs.Frame.{idle-zone, no-start, in-range, frame-length, frame-rows, pointer, count, zone-of}
 use Rattle.frames.specs.Link.{zone-at, count-width}
@@ -164,10 +164,6 @@ unfoldable pub step-call : Settings → Extractor → List ℕ → List ℕ → 
 step-call s x store f =
     let n : ℕ = first (step-rows s x store f) in
     pick (eqb n 0) (step s f store x) (steps-to (Refused n) x store)
-
--- so many octets from `start`; none where they would run past the end
-unfoldable pub part-of : List ℕ → ℕ → ℕ → List ℕ
-part-of os start size = pick (leb (start + size) (length os)) (take size (drop start os)) []
 
 -- the octets that an answer shows
 unfoldable pub shown : List ℕ → List ℕ → Found → List ℕ

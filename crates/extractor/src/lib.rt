@@ -4,7 +4,7 @@ ghost use Prim.Native.Nat.{ℕ};
 ghost use mathlib.Core.List.{List, []};
 ghost use Rattle.octets.specs.Basics.{first};
 ghost use Rattle.frames.specs.Frame.{heading-rows};
-ghost use Rattle.extractor.specs.Records.{checked, enter-rows, step-rows, part-of, shown};
+ghost use Rattle.extractor.specs.Records.{checked, enter-rows, step-rows, shown};
 ghost use Rattle.extractor.specs.Answers.{enter-says, enter-answer, step-says, step-answer};
 use frames::Settings;
 
@@ -166,30 +166,15 @@ pub fn step(s: Settings, x: Extractor, store: &mut [u8], frame: &[u8]) -> Move
     walking::moved(s, x, store, frame)
 }
 
-// So many octets from `start`; none where they would run past the end.
-fn part<'a>(octets: &'a [u8], start: usize, size: usize) -> &'a [u8]
-    ensures { λ r. ⌜ now r ≡ part-of (now (octets .entry)) start size ⌝ }
-{
-    let len = octets.len();
-    if len < size {
-        return &octets[..0];
-    }
-    if len - size < start {
-        return &octets[..0];
-    }
-    let end = start + size;
-    &octets[start..end]
-}
-
 // The part of the frame or of the store that a step's answer names; an empty part where it names none.
 pub fn show<'a>(frame: &'a [u8], store: &'a [u8], found: Found) -> &'a [u8]
     ensures { λ r. ⌜ now r ≡ shown (now (frame .entry)) (now (store .entry)) found ⌝ }
 {
     match found {
-        Found::InFrame { start, size, .. } => part(frame, start, size),
-        Found::InStore { size, .. } => part(store, 0, size),
-        Found::Refused { .. } => part(frame, 0, 0),
-        Found::Damaged => part(frame, 0, 0),
-        Found::Spent => part(frame, 0, 0),
+        Found::InFrame { start, size, .. } => octets::part(frame, start, size),
+        Found::InStore { size, .. } => octets::part(store, 0, size),
+        Found::Refused { .. } => octets::part(frame, 0, 0),
+        Found::Damaged => octets::part(frame, 0, 0),
+        Found::Spent => octets::part(frame, 0, 0),
     }
 }

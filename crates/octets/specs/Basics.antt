@@ -88,6 +88,10 @@ fits os at n = leb (at + n) (length os)
 unfoldable pub number-at : ℕ → ℕ → List ℕ → ℕ
 number-at n at os = pick (fits os at n) (number (take n (drop at os))) 0
 
+-- so many octets from `start`; none where they run past the end
+unfoldable pub part-of : List ℕ → ℕ → ℕ → List ℕ
+part-of os start size = pick (fits os start size) (take size (drop start os)) []
+
 -- `os` written over `buffer` from `at` where it fits; `buffer` as it was where not
 unfoldable pub laid : List ℕ → ℕ → List ℕ → List ℕ
 laid buffer at os = pick (fits buffer at (length os)) (over buffer at os) buffer

@@ -3,7 +3,7 @@ ghost use mathlib.Core.Path.{_≡_};
 ghost use Prim.Native.Nat.{_+_, _-_, _/_, _^_, _≤_, min};
 ghost use lib.ListN.{length, take, drop, getD, replicate};
 ghost use lib.Dec.{leb};
-ghost use Rattle.octets.specs.Basics.{field, join, placed, number, number-at, octets, over, fits, laid, part-fits, laid-part, Lays};
+ghost use Rattle.octets.specs.Basics.{field, join, placed, number, number-at, part-of, octets, over, fits, laid, part-fits, laid-part, Lays};
 
 pub mod refusals;
 
@@ -117,6 +117,17 @@ pub fn number6(s: &[u8], at: usize) -> u64
     } else {
         0
     }
+}
+
+// So many octets from `start`; none where they run past the end.
+pub fn part<'a>(s: &'a [u8], start: usize, size: usize) -> &'a [u8]
+    ensures { λ r. ⌜ now r ≡ part-of (now (s .entry)) start size ⌝ }
+{
+    if !within(s.len(), start, size) {
+        return &s[..0];
+    }
+    let end = start + size;
+    &s[start..end]
 }
 
 // Writes n as k octets over buf from `at`, the most significant first, and answers 0; or nothing, and answers 2, where they do not fit.

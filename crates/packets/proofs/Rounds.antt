@@ -10,11 +10,11 @@ use lib.ListN.{length, getD, length-append}
 use lib.Seq.{drop-at, take-length}
 use lib.Dec.{leb, eqb}
 use borrow.Author.Tests.{leb-true, leb-false, le-leb, lt-leb, eqb-true, eqb-false}
-use Rattle.octets.specs.Basics.{pick, and, or, number-at, part, over, first}
+use Rattle.octets.specs.Basics.{pick, and, or, number-at, part-of, over, first}
 use Rattle.octets.proofs.Choices.{split, and-true, or-true}
 use Rattle.packets.specs.Packet.{limit-in-range, WellFormed, look, whole, packet-version, protocol-of, length-of-length, header-length}
 use Rattle.packets.specs.Front.{first-octet, front}
-use Rattle.packets.specs.Wrap.{lol-for, wrapped-total, wrapped, wrap-in-range, wrap-rows, Suits, its-lol, extension-of, reserved-of, unwrap-rows, unwrapping, run-of, RoundTrip}
+use Rattle.packets.specs.Wrap.{lol-for, wrapped-total, wrapped, wrap-in-range, wrap-rows, Suits, its-lol, extension-of, reserved-of, unwrap-rows, unwrapping, RoundTrip}
 use Rattle.packets.proofs.Sizes.{header-most}
 use Rattle.packets.proofs.Readings.{formed-test}
 use Rattle.packets.proofs.Fronts.{first-version, first-protocol, first-lol, second-extension, length-front, front-first, front-second, front-look, front-reserved}
@@ -181,13 +181,11 @@ module _ (limit protocol extension : ℕ) (unit : List ℕ) (s : Settings limit 
       let size : length packet - header-length lol ≡ length unit = omega (arith, packet-length) in
       unwrapping-done limit packet no-row ∙ rw (its-protocol, its-extension, its-length, size) refl
 
-  packet-unit : run-of packet (header-length lol) (length unit) ≡ unit
-  unfolding run-of part packet wrapped wrapped-total
+  packet-unit : part-of packet (header-length lol) (length unit) ≡ unit
+  unfolding part-of packet wrapped wrapped-total
   packet-unit =
-      let n : header-length lol + length unit - header-length lol ≡ length unit = omega arith in
       rw (
         le-leb (header-length lol + length unit) (length packet) (omega (arith, packet-length)),
-        n,
         drop-at (front protocol extension lol total) unit (header-length lol) (length-front protocol extension lol total),
         take-length unit,
       )

@@ -9,12 +9,12 @@ use lib.ListN.{length, take, drop, getD, length-drop}
 use lib.Seq.{take-all, take-length}
 use lib.Dec.{eqb}
 use borrow.Author.Tests.{le-leb, ltb-false, eqb-false, eq-eqb, ne-eqb, not-false}
-use Rattle.octets.specs.Basics.{first, part, over, laid-part}
+use Rattle.octets.specs.Basics.{first, part-of, over, laid-part}
 use Rattle.octets.proofs.Choices.{split, none-holds, or-false}
 use Rattle.octets.proofs.Written.{part-within, length-over, over-over}
 use Rattle.packets.specs.Packet.{whole, look, limit-in-range, well-formed, packet-version, protocol-of, header-length, size-of}
 use Rattle.packets.specs.Front.{front}
-use Rattle.packets.specs.Wrap.{lol-for, wrapped-total, wrapped, wrap-in-range, wrap-rows, wrapping, its-lol, extension-of, unwrap-rows, unwrapping, run-of, unit-of}
+use Rattle.packets.specs.Wrap.{lol-for, wrapped-total, wrapped, wrap-in-range, wrap-rows, wrapping, its-lol, extension-of, unwrap-rows, unwrapping, unit-of}
 use Rattle.packets.proofs.Grown.{look-size}
 use Rattle.packets.proofs.Readings.{test-formed}
 use Rattle.packets.proofs.Fronts.{length-front}
@@ -105,8 +105,8 @@ module _ (limit : ℕ) (p : List ℕ) where
 
 -- the part that an accepted call speaks of is the data unit
 pub unit-handed : (limit : ℕ) (p : List ℕ) → first (unwrap-rows limit p) ≡ 0
-    → run-of p (unwrapping limit p .start) (unwrapping limit p .size) ≡ unit-of p
-unfolding unwrap-rows run-of part unit-of size-of
+    → part-of p (unwrapping limit p .start) (unwrapping limit p .size) ≡ unit-of p
+unfolding unwrap-rows part-of unit-of size-of
 unit-handed limit p e =
     let a = or-false (not (well-formed limit p)) (eqb (packet-version (getD p 0 0)) 0) (none-holds 7 _ _ (none-holds 0 (not (limit-in-range limit)) _ e .1) .0) in
     let says : look limit p ≡ whole (length p) = test-formed limit p (not-false _ (a .0)) in

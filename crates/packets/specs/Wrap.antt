@@ -5,7 +5,7 @@ use mathlib.Core.List.{List, [], _∷_, _++_}
 use mathlib.Core.Bool.{Bool, true, false, not}
 use lib.ListN.{length, getD, drop}
 use lib.Dec.{leb, ltb, eqb}
-use Rattle.octets.specs.Basics.{pick, and, or, field, number-at, part, over, Row, row, first}
+use Rattle.octets.specs.Basics.{pick, and, or, field, number-at, part-of, over, Row, row, first}
 use Rattle.packets.specs.Packet.{limit-in-range, WellFormed, well-formed, packet-version, protocol-of, length-of-length, header-length}
 use Rattle.packets.specs.Front.{front}
 use Rattle.packets.specs.declared.wrapping.Wrapped.{Wrapped}
@@ -122,14 +122,10 @@ unfoldable pub unwraps : Unwrapped → Unwrapping
 unwraps (Unwrapped.Refused refusal) = record { accepted = false; refusal = refusal; protocol = 0; extension = 0; start = 0; size = 0 }
 unwraps (Unwrapped.Unit protocol extension start size) = record { accepted = true; refusal = 0; protocol = protocol; extension = extension; start = start; size = size }
 
--- the `size` octets from `start`; none where they run past the end
-unfoldable pub run-of : List ℕ → ℕ → ℕ → List ℕ
-run-of p start size = pick (leb (start + size) (length p)) (part start (start + size) p) []
-
 -- the part of a packet that an answer speaks of, empty on a refusal
 unfoldable pub unit-part : List ℕ → Unwrapped → List ℕ
 unit-part p (Unwrapped.Refused refusal) = []
-unit-part p (Unwrapped.Unit protocol extension start size) = run-of p start size
+unit-part p (Unwrapped.Unit protocol extension start size) = part-of p start size
 
 -- ---- what wrapping and unwrapping keep to, for a call of wrapping that is not refused
 
@@ -150,4 +146,4 @@ pub record RoundTrip (limit protocol extension : ℕ) (unit output : List ℕ) :
         start = header-length (lol-for protocol (length unit));
         size = length unit;
       }
-  pub unit-back : run-of (wrapped protocol extension unit) (header-length (lol-for protocol (length unit))) (length unit) ≡ unit
+  pub unit-back : part-of (wrapped protocol extension unit) (header-length (lol-for protocol (length unit))) (length unit) ≡ unit

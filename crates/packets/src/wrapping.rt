@@ -2,7 +2,7 @@
 ghost use mathlib.Core.Path.{_≡_};
 ghost use lib.ListN.{length};
 ghost use Rattle.octets.specs.Basics.{first};
-ghost use Rattle.packets.specs.Wrap.{lol-for, wrapped-total, wrap-in-range, wrap-rows, wrapping, wraps, extension-of, reserved-of, unwrap-rows, unwrapping, unwraps, run-of, unit-part};
+ghost use Rattle.packets.specs.Wrap.{lol-for, wrapped-total, wrap-in-range, wrap-rows, wrapping, wraps, extension-of, reserved-of, unwrap-rows, unwrapping, unwraps, unit-part};
 use super::EXTENSION;
 use super::formed;
 use super::front::write_front;
@@ -153,26 +153,12 @@ pub fn unwrap(limit: usize, p: &[u8]) -> Unwrapped
     }
 }
 
-// The `size` octets from `start`; none where they run past the end.
-fn run<'a>(p: &'a [u8], start: usize, size: usize) -> &'a [u8]
-    ensures { λ r. ⌜ now r ≡ run-of (now (p .entry)) start size ⌝ }
-{
-    if p.len() < start {
-        return &p[0..0];
-    }
-    if p.len() - start < size {
-        return &p[0..0];
-    }
-    let end = start + size;
-    &p[start..end]
-}
-
 // The data unit that an answer of `unwrap` speaks of, as a part of the lent packet.
 pub fn unit_part<'a>(p: &'a [u8], u: Unwrapped) -> &'a [u8]
     ensures { λ r. ⌜ now r ≡ unit-part (now (p .entry)) u ⌝ }
 {
     match u {
         Unwrapped::Refused { .. } => &p[0..0],
-        Unwrapped::Unit { start, size, .. } => run(p, start, size),
+        Unwrapped::Unit { start, size, .. } => octets::part(p, start, size),
     }
 }

@@ -14,9 +14,9 @@ fn wrapped(answer: Wrapped, n: usize, out: &[u8]) {
         Wrapped::Refused { refusal } => say::refused(refusal),
         Wrapped::Total { total } => {
             say::phrase(say::WRAPPED);
-            say::octets(text::part(out, 0, octets::less(total, n)));
+            say::octets(octets::part(out, 0, octets::less(total, n)));
             say::number(say::TOTAL, total as u64);
-            say::octets(text::part(out, octets::less(total, 1), 1));
+            say::octets(octets::part(out, octets::less(total, 1), 1));
         }
     }
 }
@@ -34,7 +34,7 @@ fn wrap(limit: usize, protocol: usize, extension: usize, n: usize) {
         limit,
         octet(protocol),
         octet(extension),
-        text::part(&unit, 0, n),
+        octets::part(&unit, 0, n),
         &mut out,
     );
     say::phrase(say::ANSWER);
@@ -45,7 +45,7 @@ fn wrap(limit: usize, protocol: usize, extension: usize, n: usize) {
 fn wrap_nothing(limit: usize) {
     let unit = [0u8; 1];
     let mut out = [0u8; 1];
-    let answer = packets::wrap(limit, 2, 0, text::part(&unit, 0, 0), &mut out);
+    let answer = packets::wrap(limit, 2, 0, octets::part(&unit, 0, 0), &mut out);
     say::phrase(say::ANSWER);
     wrapped(answer, 0, &out);
 }

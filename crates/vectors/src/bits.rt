@@ -4,7 +4,6 @@ use crate::run;
 use crate::run::BitReceiver;
 use crate::run::Ends;
 use crate::say;
-use crate::text;
 use bitstream::Reading;
 use frames::Settings;
 use frames::bits::BitSettings;
@@ -23,7 +22,7 @@ fn for_bits(s: Settings) -> BitSettings {
 fn wrote(e: Ends, n: usize, refusal: u8, frame: &[u8]) {
     say::label(e.label);
     say::numbers(say::WRITES_BITS, n as u64, refusal as u64, 0, 0);
-    say::octets(text::part(frame, 0, run::frame_length(e.settings)));
+    say::octets(octets::part(frame, 0, run::frame_length(e.settings)));
     say::end();
 }
 

@@ -194,7 +194,7 @@ fn find(forms: &[u8], line: &[u8]) -> Asked {
     let mut k = 0;
     while at < forms.len() {
         let end = text::line_end(forms, at);
-        let numbers = try_form(text::part(forms, at, end - at), line);
+        let numbers = try_form(octets::part(forms, at, end - at), line);
         if numbers.fit {
             return Asked {
                 verb: verb_at(k),

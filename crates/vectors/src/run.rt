@@ -178,7 +178,7 @@ pub(crate) fn hear(e: Ends, frame: &[u8]) -> Ends {
 // The line of a frame that is full, with its pointer and its octets; then it is heard.
 fn full(e: Ends) -> Ends {
     let frame = e.frame;
-    let whole = text::part(&frame, 0, frame_length(e.settings));
+    let whole = octets::part(&frame, 0, frame_length(e.settings));
     let head = frames::read_head(e.settings, whole);
     say::label(e.label);
     say::number(say::WRITES, head.pointer as u64);
@@ -285,6 +285,6 @@ fn put_once(e: Ends, p: &[u8]) {
 pub(crate) fn put_long(e: Ends, n: usize, first: &[u8]) -> Ends {
     let mut octets = text::longest(0);
     octets::lay(&mut octets, 0, first, 0, first.len());
-    put_once(e, text::part(&octets, 0, n));
+    put_once(e, octets::part(&octets, 0, n));
     e
 }

@@ -67,7 +67,7 @@ pub(crate) fn end() {
 // What a line begins with.
 pub(crate) fn label(l: Given) {
     let octets = l.octets;
-    text(text::part(&octets, 0, l.size));
+    text(octets::part(&octets, 0, l.size));
 }
 
 // A line of the input, after a space.

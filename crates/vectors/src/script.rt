@@ -39,7 +39,7 @@ fn act(asked: Asked, line: &[u8], e: Ends) -> Ends {
     let n = asked.numbers;
     let given = hex::read(line, n.last);
     let octets = given.octets;
-    obey(verb, n, text::part(&octets, 0, given.size), line, e)
+    obey(verb, n, octets::part(&octets, 0, given.size), line, e)
 }
 
 // Every line, up to one that is not understood.
@@ -50,7 +50,7 @@ pub(crate) fn follow(text: &[u8]) {
     while at < text.len() {
         let end = text::line_end(text, at);
         let next = end + 1;
-        let line = text::part(text, at, end - at);
+        let line = octets::part(text, at, end - at);
         let asked = forms::read(line);
         let verb = asked.verb;
         if let Verb::Unknown = verb {

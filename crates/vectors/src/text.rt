@@ -32,23 +32,11 @@ pub(crate) fn line(text: &[u8], k: usize) -> &[u8] {
     while left > 0 {
         let end = line_end(text, at);
         if end == text.len() {
-            return part(text, 0, 0);
+            return octets::part(text, 0, 0);
         }
         at = end + 1;
         left -= 1;
     }
     let end = line_end(text, at);
-    part(text, at, end - at)
-}
-
-// The `size` octets from `start`; none where they run past the end.
-pub(crate) fn part<'a>(s: &'a [u8], start: usize, size: usize) -> &'a [u8] {
-    if s.len() < start {
-        return &s[..0];
-    }
-    if s.len() - start < size {
-        return &s[..0];
-    }
-    let end = start + size;
-    &s[start..end]
+    octets::part(text, at, end - at)
 }

@@ -9,13 +9,13 @@ use lib.ListN.{length}
 use lib.Seq.{length-take-le}
 use lib.Dec.{leb, eqb}
 use borrow.Author.Tests.{leb-true, le-leb, eqb-true}
-use Rattle.octets.specs.Basics.{first}
+use Rattle.octets.specs.Basics.{part-of, first}
 use Rattle.octets.proofs.Tests.{test}
 use Rattle.packets.proofs.Grown.{look-bounds}
 use Rattle.frames.specs.Frame.{in-range}
 use Rattle.frames.specs.declared.Settings.{Settings}
 use Rattle.frames.proofs.Settled.{settled}
-use Rattle.extractor.specs.Records.{step-rows, Stepped, step-call, part-of, shown}
+use Rattle.extractor.specs.Records.{step-rows, Stepped, step-call, shown}
 use Rattle.extractor.specs.Answers.{found-numbers}
 use Rattle.extractor.specs.declared.Extractor.{Extractor}
 use Rattle.extractor.specs.declared.Found.{Found}

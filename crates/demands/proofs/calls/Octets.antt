@@ -28,6 +28,7 @@ of-octets = record {
   number3 = λ κs s at. exactly;
   number4 = λ κs s at. exactly;
   number6 = λ κs s at. exactly;
+  part = λ κs s start size part. exactly;
   put = λ κs buf at k n. lays _ _;
   lay = λ κs buf at src from to. lays _ _;
   fill = λ κs buf at n octet. lays _ _;

@@ -6,7 +6,7 @@ use lib.ListN.{getD, replicate}
 use lib.Dec.{leb}
 use contract.Lifetimes.{Lfts}
 use denote.Ref.{now, at-last}
-use Rattle.octets.specs.Basics.{pick, field, placed, number-at, octets, fits, laid, part-fits, laid-part}
+use Rattle.octets.specs.Basics.{pick, field, placed, number-at, part-of, octets, fits, laid, part-fits, laid-part}
 use Rattle.octets.specs.declared.Place.{Place}
 use Rattle.octets.proofs.field.Reads as field-fn
 use Rattle.octets.proofs.placed.Reads as placed-fn
@@ -16,6 +16,7 @@ use Rattle.octets.proofs.number2.Reads as number2-fn
 use Rattle.octets.proofs.number3.Reads as number3-fn
 use Rattle.octets.proofs.number4.Reads as number4-fn
 use Rattle.octets.proofs.number6.Reads as number6-fn
+use Rattle.octets.proofs.part.Reads as part-fn
 use Rattle.octets.proofs.put.Reads as put-fn
 use Rattle.octets.proofs.lay.Reads as lay-fn
 use Rattle.octets.proofs.fill.Reads as fill-fn
@@ -47,6 +48,10 @@ pub record OfOctets : Type 0 where
       → Is (as-read (number4-fn.Pre κs (s, (at, tt))) (λ r. number4-fn.Post κs (s, (at, tt)) r (s, (at, tt)))) (number-at 4 at (now s))
   pub number6 : (κs : Lfts 1) (s : Slice) (at : ℕ)
       → Is (as-read (number6-fn.Pre κs (s, (at, tt))) (λ r. number6-fn.Post κs (s, (at, tt)) r (s, (at, tt)))) (number-at 6 at (now s))
+  -- a part that is handed back lies somewhere: an outcome is its octets
+  pub part : (κs : Lfts 1) (s : Slice) (start size : ℕ) (part : Slice)
+      → Is (as-read (part-fn.Pre κs (s, (start, (size, tt)))) (λ r. part-fn.Post κs (s, (start, (size, tt))) (at-last part r) (s, (start, (size, tt)))))
+      (part-of (now s) start size)
   pub put : (κs : Lfts 1) (buf : Slice) (at k n : ℕ)
       → Lays (as-read (put-fn.Pre κs (buf, (at, (k, (n, tt)))))
       (λ o. put-fn.Post κs (buf, (at, (k, (n, tt)))) (o .answer) (at-last buf (o .lent), (at, (k, (n, tt))))))

@@ -12,7 +12,7 @@ returns c = rw (c .before .enum-told .given .1) refl
 
 returns-2 : tie.Need-returns-2
 unfolding unit-part
-returns-2 c = rw (c .before .before .u .given .1) (c .run .ensures)
+returns-2 c = rw (c .before .before .u .given .1) (c .part .ensures)
 
 pub unit-part-spec : {M : Type 1} → statement M
 unit-part-spec =
