@@ -80,7 +80,7 @@ fn pointer_reason(s: Settings, held: usize, pointer: usize, store: &[u8], frame:
     match length_across(s.limit, store, held, frame, ZONE_AT, ZONE_AT + s.zone) {
         Seen::Damaged => HEADER_DAMAGED,
         Seen::More => compared(pointer == NO_START),
-        Seen::Whole { total } => compared(pointer == next_start(s.zone, octets::less(total, held))),
+        Seen::Whole { total } => compared(pointer == next_start(s.zone, octets::rest(total, held))),
     }
 }
 

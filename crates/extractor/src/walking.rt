@@ -62,7 +62,7 @@ fn walk(s: Settings, last: u32, held: usize, at: usize, store: &mut [u8], frame:
             if held + (to - from) < total {
                 return keep(last, held, store, frame, from, to);
             }
-            let rest = octets::less(total, held);
+            let rest = octets::rest(total, held);
             let next = onward(last, at + rest);
             if held == 0 {
                 let found = Found::InFrame {

@@ -198,9 +198,9 @@ pub fn least(a: usize, b: usize) -> usize
     if a < b { a } else { b }
 }
 
-// a less b; 0 where b is more.
-pub fn less(a: usize, b: usize) -> usize
-    ensures { λ r. ⌜ r ≡ a - b ⌝ }
+// What is left of a whole when so many are taken; 0 where more are.
+pub fn rest(whole: usize, taken: usize) -> usize
+    ensures { λ r. ⌜ r ≡ whole - taken ⌝ }
 {
-    if a < b { 0 } else { a - b }
+    if whole < taken { 0 } else { whole - taken }
 }

@@ -81,7 +81,7 @@ pub fn write_idle(out: &mut [u8], at: usize, r: usize, fill: u8) -> u8
     ensures { λ n. ⌜ n ≡ first (idle-packet-rows r (length (now (out .entry)) - at)) ⌝ }
     ensures { λ n. ⌜ now (out .exit) ≡ pick (eqb n 0) (over (now (out .entry)) at (idle-packet fill r)) (now (out .entry)) ⌝ }
 {
-    let refusal = idle_refusal(r, octets::less(out.len(), at));
+    let refusal = idle_refusal(r, octets::rest(out.len(), at));
     if refusal != 0 {
         return refusal;
     }

@@ -149,7 +149,7 @@ pub fn unwrap(limit: usize, p: &[u8]) -> Unwrapped
         protocol: protocol(p),
         extension: extension(p),
         start,
-        size: octets::less(p.len(), start),
+        size: octets::rest(p.len(), start),
     }
 }
 

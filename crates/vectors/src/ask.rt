@@ -14,9 +14,9 @@ fn wrapped(answer: Wrapped, n: usize, out: &[u8]) {
         Wrapped::Refused { refusal } => say::refused(refusal),
         Wrapped::Total { total } => {
             say::phrase(say::WRAPPED);
-            say::octets(octets::part(out, 0, octets::less(total, n)));
+            say::octets(octets::part(out, 0, octets::rest(total, n)));
             say::number(say::TOTAL, total as u64);
-            say::octets(octets::part(out, octets::less(total, 1), 1));
+            say::octets(octets::part(out, octets::rest(total, 1), 1));
         }
     }
 }

@@ -154,7 +154,7 @@ fn take(sign: u8, line: &[u8], n: Numbers) -> Numbers {
             n
         }
         b'*' => {
-            if octets::less(line.len(), at) > 4096 {
+            if octets::rest(line.len(), at) > 4096 {
                 return n;
             }
             more(n, at, line.len())

@@ -75,7 +75,7 @@ pub(crate) fn label(e: Ends, line: &[u8], from: usize) -> Ends {
     let mut octets = [0u8; 4096];
     octets::lay(&mut octets, 0, line, from, line.len());
     let label = Given {
-        size: octets::less(line.len(), from),
+        size: octets::rest(line.len(), from),
         octets,
     };
     let mut after = e;

@@ -33,5 +33,5 @@ of-octets = record {
   lay = λ κs buf at src from to. lays _ _;
   fill = λ κs buf at n octet. lays _ _;
   least = λ a b. exactly;
-  less = λ a b. exactly;
+  rest = λ whole taken. exactly;
 }

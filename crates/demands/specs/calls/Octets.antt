@@ -21,7 +21,7 @@ use Rattle.octets.proofs.put.Reads as put-fn
 use Rattle.octets.proofs.lay.Reads as lay-fn
 use Rattle.octets.proofs.fill.Reads as fill-fn
 use Rattle.octets.proofs.least.Reads as least-fn
-use Rattle.octets.proofs.less.Reads as less-fn
+use Rattle.octets.proofs.rest.Reads as rest-fn
 use Rattle.demands.specs.Promises.{Slice, Left, Contract, as-read, Is}
 
 -- a call that writes over a part of its buffer, or answers 2 and writes nothing where there is no room
@@ -65,4 +65,5 @@ pub record OfOctets : Type 0 where
       (λ o. fill-fn.Post κs (buf, (at, (n, (octet, tt)))) (o .answer) (at-last buf (o .lent), (at, (n, (octet, tt))))))
       (fits (now buf) at n) (laid (now buf) at (replicate n octet))
   pub least : (a b : ℕ) → Is (as-read (least-fn.Pre tt (a, (b, tt))) (λ r. least-fn.Post tt (a, (b, tt)) r (a, (b, tt)))) (min a b)
-  pub less : (a b : ℕ) → Is (as-read (less-fn.Pre tt (a, (b, tt))) (λ r. less-fn.Post tt (a, (b, tt)) r (a, (b, tt)))) (a - b)
+  pub rest : (whole taken : ℕ)
+      → Is (as-read (rest-fn.Pre tt (whole, (taken, tt))) (λ r. rest-fn.Post tt (whole, (taken, tt)) r (whole, (taken, tt)))) (whole - taken)

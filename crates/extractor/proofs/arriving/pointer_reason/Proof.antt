@@ -39,12 +39,12 @@ returns-3 c =
 returns-4 : tie.Need-returns-4
 returns-4 c =
     let at-next = c .before in
-    let at-less = at-next .before in
-    let at-total = at-less .before .before in
+    let at-rest = at-next .before in
+    let at-total = at-rest .before .before in
     let at-look = at-total .before .before in
     whole-held (start at-look .pre .0) (start at-look .args .pointer) (start at-look .pre .1) (at-look .before .before .if1 .left) _
-    (at-look .length-across .ensures) (c .compared3 .result) (at-next .next-start .result) (at-less .less .result)
-    (c .compared3 .ensures) (at-next .next-start .ensures) (at-less .less .ensures) (at-total .total .given .1)
+    (at-look .length-across .ensures) (c .compared3 .result) (at-next .next-start .result) (at-rest .rest .result)
+    (c .compared3 .ensures) (at-next .next-start .ensures) (at-rest .rest .ensures) (at-total .total .given .1)
 
 pub pointer-reason-spec : {M : Type 1} → statement M
 pointer-reason-spec =

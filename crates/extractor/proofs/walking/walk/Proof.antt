@@ -56,19 +56,19 @@ part-is-idle-end c =
 returns-2 : tie.Need-returns-2
 returns-2 c =
     let at-if2 = c .before .before in
-    let at-less = at-if2 .before .before in
-    let at-total = at-less .before .before .before in
+    let at-rest = at-if2 .before .before in
+    let at-total = at-rest .before .before .before in
     let at-look = at-total .before .before in
     rw (at-if2 .before .onward .ensures)
     (step-frame (start at-look .pre) (start at-look .args .last) _ (at-look .length-across .ensures) (at-total .total .given .1)
-    (at-less .before .if1 .left) _ _ (at-if2 .if2 .taken) (at-less .less .ensures) (c .is-idle .ensures))
+    (at-rest .before .if1 .left) _ _ (at-if2 .if2 .taken) (at-rest .rest .ensures) (c .is-idle .ensures))
 
 add-lay : tie.Need-add-lay
 add-lay c =
-    let at-less = c .before .before .before in
-    let at-look = at-less .before .before .before .before .before in
+    let at-rest = c .before .before .before in
+    let at-look = at-rest .before .before .before .before .before in
     let p = plain (start at-look .pre) in
-    record { fits = omega (arith, p, at-less .less .ensures, at-less .before .if1 .left) }
+    record { fits = omega (arith, p, at-rest .rest .ensures, at-rest .before .if1 .left) }
 
 returns-3 : tie.Need-returns-3
 returns-3 c =
@@ -86,12 +86,12 @@ returns-5 : tie.Need-returns-5
 returns-5 c =
     let at-lay = c .before .before .before .before in
     let at-if2 = at-lay .before .before in
-    let at-less = at-if2 .before .before in
-    let at-total = at-less .before .before .before in
+    let at-rest = at-if2 .before .before in
+    let at-total = at-rest .before .before .before in
     let at-look = at-total .before .before in
     rw (at-if2 .before .onward .ensures)
     (step-laid (start at-look .pre) (start at-look .args .last) _ (at-look .length-across .ensures) (at-total .total .given .1)
-    (at-less .before .if1 .left) _ _ _ (at-if2 .if2 .left) (at-less .less .ensures) (at-lay .lay .ensures .left) (c .is-idle2 .ensures))
+    (at-rest .before .if1 .left) _ _ _ (at-if2 .if2 .left) (at-rest .rest .ensures) (at-lay .lay .ensures .left) (c .is-idle2 .ensures))
 
 pub walk-spec : {M : Type 1} → statement M
 walk-spec =

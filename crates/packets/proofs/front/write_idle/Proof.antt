@@ -21,7 +21,7 @@ module _ (c : tie.After-idle-refusal) where
   start = c .before .before .before
 
   refusal : c .idle-refusal .result ≡ first (idle-packet-rows (start .args .r) (length (start .args .out .now) - start .args .at))
-  refusal = c .idle-refusal .ensures ∙ ap (λ (room : ℕ). first (idle-packet-rows (start .args .r) room)) (c .before .less .ensures)
+  refusal = c .idle-refusal .ensures ∙ ap (λ (room : ℕ). first (idle-packet-rows (start .args .r) room)) (c .before .rest .ensures)
 
 returns : tie.Need-returns
 returns c = (refusal (c .before), rw (ne-eqb _ _ (c .if1 .taken)) refl)

@@ -37,7 +37,7 @@ returns-2 c =
     let at-refusal = at-lol .before .before in
     let a = at-refusal .before .before .args in
     done (a .limit) (a .p .now) (at-refusal .unwrap-refusal .ensures) (at-lol .before .if1 .left) (at-lol .length-of-length .ensures)
-    (at-header .header-length .ensures) (at-protocol .protocol .ensures) (c .before .extension .ensures) (c .less .ensures)
+    (at-header .header-length .ensures) (at-protocol .protocol .ensures) (c .before .extension .ensures) (c .rest .ensures)
 
 pub unwrap-spec : {M : Type 1} → statement M
 unwrap-spec =
