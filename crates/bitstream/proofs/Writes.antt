@@ -16,7 +16,7 @@ use Rattle.frames.specs.BitFrame.{bits-in-range, bit-frame-length, bit-head, bi
 use Rattle.frames.specs.declared.bits.BitSettings.{BitSettings}
 use Rattle.frames.proofs.bits.Settled.{BitsSettled, bits-settled}
 use Rattle.frames.proofs.bits.Heads.{bit-head-taken, length-bit-head}
-use Rattle.bitstream.specs.Bitstream.{octets-for, pointer-for, writer-reachable, write-rows, frame-with, zone-with, wrote, written}
+use Rattle.bitstream.specs.Bitstream.{octets-for, most-width, pointer-for, writer-reachable, write-rows, frame-with, zone-with, wrote, written}
 use Rattle.bitstream.specs.declared.Writer.{Writer}
 use Rattle.bitstream.proofs.Pointers.{pointer-used}
 
@@ -44,7 +44,7 @@ allowed s w n lent room e =
       counted = ltb-true _ _ (not-false _ (ten .0));
     }
 
-pub pointer-lt : (s : BitSettings) (n : ℕ) → n ≤ most-bits s → s .width ≤ 2047 → pointer-for s n < 2 ^ 14
+pub pointer-lt : (s : BitSettings) (n : ℕ) → n ≤ most-bits s → s .width ≤ most-width → pointer-for s n < 2 ^ 14
 unfolding pointer-for
 pointer-lt s n h k =
     pick-lt (eqb n 0) _ _ (2 ^ 14) (omega arith) (pick-lt (eqb n (most-bits s)) _ _ (2 ^ 14) (omega arith) (omega arith))

@@ -3,7 +3,7 @@ ghost use mathlib.Core.Path.{_≡_};
 ghost use Prim.Native.Nat.{_≤_};
 ghost use Rattle.octets.specs.Basics.{first, over};
 ghost use Rattle.frames.specs.Link.{zone-at, next-count};
-ghost use Rattle.bitstream.specs.Bitstream.{octets-for, pointer-for, valid-bits, mixed, zone-with, begun, writer-reachable, write-rows, wrote, written, reader-reachable, loss-flag, no-reading, reading, leading-octets, Fits};
+ghost use Rattle.bitstream.specs.Bitstream.{octets-for, most-width, pointer-for, valid-bits, mixed, zone-with, begun, writer-reachable, write-rows, wrote, written, reader-reachable, loss-flag, no-reading, reading, leading-octets, Fits};
 use frames::WHEEL;
 use frames::ZONE_AT;
 use frames::bits::ALL_VALID;
@@ -65,7 +65,7 @@ fn octets_for(n: usize) -> usize
 // The pointer of a zone with n bits.
 fn pointer_for(s: BitSettings, n: usize) -> u16
     requires { ⌜ octets-for n ≤ s .width ⌝ }
-    requires { ⌜ s .width ≤ 2047 ⌝ }
+    requires { ⌜ s .width ≤ most-width ⌝ }
     ensures { λ r. ⌜ r ≡ pointer-for s n ⌝ }
 {
     if n == 0 {
@@ -164,7 +164,7 @@ fn loss_flag(s: BitSettings, x: Reader, count: u32) -> bool
 
 // How many bits a pointer says are valid.
 fn valid_bits(s: BitSettings, pointer: u16) -> usize
-    requires { ⌜ s .width ≤ 2047 ⌝ }
+    requires { ⌜ s .width ≤ most-width ⌝ }
     ensures { λ r. ⌜ r ≡ valid-bits s pointer ⌝ }
 {
     if pointer == FILL_ONLY {

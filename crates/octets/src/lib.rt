@@ -5,6 +5,7 @@ ghost use lib.ListN.{length, take, drop, getD, replicate};
 ghost use lib.Dec.{leb};
 ghost use Rattle.octets.specs.Basics.{field, join, placed, number, number-at, part-of, octets, over, fits, laid, part-fits, laid-part, Lays};
 
+pub mod limits;
 pub mod refusals;
 
 // Where a field stands in a word: how many bits lie below it, and how many it has.

@@ -14,6 +14,9 @@ use super::VERSION;
 use super::header_length;
 use octets::refusals;
 
+// The longest idle packet whose length one octet states.
+const MOST_SHORT_IDLE: usize = 255;
+
 // The longest idle packet: two octets state its length.
 const MOST_IDLE: usize = 65535;
 
@@ -59,7 +62,7 @@ fn idle_lol(r: usize) -> u8
     if r == 1 {
         return 0;
     }
-    if r <= 255 { 1 } else { 2 }
+    if r <= MOST_SHORT_IDLE { 1 } else { 2 }
 }
 
 // The first refusal that holds, for r octets and the room there is; 0 where none does.

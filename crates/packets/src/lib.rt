@@ -6,6 +6,7 @@ ghost use Rattle.octets.specs.Basics.{and, read, number-at};
 ghost use Rattle.packets.specs.Packet.{whole, limit-in-range, apid, OfAKind, packet-version, protocol-of, length-of-length, header-length, sized, counted, encapsulation, look, is-idle, well-formed};
 ghost use Rattle.packets.specs.Header.{seen, told, reading, answer};
 use octets::Place;
+use octets::limits;
 use octets::refusals;
 
 mod front;
@@ -30,10 +31,18 @@ const APID: Place = Place {
     width: 11,
 };
 
+// The octets of a space packet's header, and what its length field says less than the packet's length.
+const SPACE_HEADER: usize = 6;
+
+const LENGTH_LESS: usize = 7;
+
 // The APID of an idle space packet, and the protocol of an idle encapsulation packet.
 const IDLE_APID: u64 = 2047;
 
 const IDLE_PROTOCOL: u8 = 0;
+
+// The protocol that the extension names further: its headers have one.
+const EXTENDED_PROTOCOL: u8 = 6;
 
 // The extension, in the second octet of an encapsulation packet's header.
 const EXTENSION: Place = Place { below: 0, width: 4 };
@@ -75,7 +84,7 @@ pub enum Seen {
 fn in_range(limit: usize) -> bool
     ensures { λ r. ⌜ r ≡ limit-in-range limit ⌝ }
 {
-    (7 <= limit) & (limit <= 65542)
+    (limits::LEAST <= limit) & (limit <= limits::MOST)
 }
 
 // The length of an encapsulation packet's header for its length-of-length field.
@@ -190,7 +199,12 @@ pub fn read_length(limit: usize, octets: &[u8]) -> Seen
     }
     let version = version(octets);
     if version == 0 {
-        return counted(limit, len, 6, octets::number2(octets, 4) as usize + 7);
+        return counted(
+            limit,
+            len,
+            SPACE_HEADER,
+            octets::number2(octets, 4) as usize + LENGTH_LESS,
+        );
     }
     if version == 7 {
         return encapsulation(limit, protocol(octets), length_of_length(octets), octets);
@@ -218,7 +232,7 @@ fn tell(octets: &[u8], total: usize) -> Header
             kind: Kind::Space,
             key: apid(octets),
             idle: is_idle(octets),
-            size: 6,
+            size: SPACE_HEADER,
             total,
         };
     }

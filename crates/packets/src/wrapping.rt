@@ -3,6 +3,7 @@ ghost use mathlib.Core.Path.{_≡_};
 ghost use lib.ListN.{length};
 ghost use Rattle.octets.specs.Basics.{first};
 ghost use Rattle.packets.specs.Wrap.{lol-for, wrapped-total, wrap-in-range, wrap-rows, wrapping, wraps, extension-of, reserved-of, unwrap-rows, unwrapping, unwraps, unit-part};
+use super::EXTENDED_PROTOCOL;
 use super::EXTENSION;
 use super::formed;
 use super::front::write_front;
@@ -13,6 +14,16 @@ use super::octet_field;
 use super::protocol;
 use super::version;
 use octets::refusals;
+
+// The longest data unit behind a header of two octets, with which it has 255; and behind one of four, with which it has 65,535.
+const MOST_BEHIND_TWO: usize = 253;
+
+const MOST_BEHIND_FOUR: usize = 65531;
+
+// The greatest protocol and the greatest extension.
+const MOST_PROTOCOL: u8 = 7;
+
+const MOST_EXTENSION: u8 = 15;
 
 // What comes of wrapping a data unit.
 pub enum Wrapped {
@@ -35,14 +46,14 @@ pub enum Unwrapped {
     },
 }
 
-// The length-of-length of the smallest header that fits a data unit of n octets: two octets up to a total of 255, four up to 65,535.
+// The length-of-length of the smallest header that fits a data unit of n octets.
 fn lol_for(protocol: u8, n: usize) -> u8
     ensures { λ r. ⌜ r ≡ lol-for protocol n ⌝ }
 {
-    if (n <= 253) & (protocol != 6) {
+    if (n <= MOST_BEHIND_TWO) & (protocol != EXTENDED_PROTOCOL) {
         return 1;
     }
-    if n <= 65531 { 2 } else { 3 }
+    if n <= MOST_BEHIND_FOUR { 2 } else { 3 }
 }
 
 // The packet's length.
@@ -58,7 +69,9 @@ fn wrap_in_range(limit: usize, protocol: u8, extension: u8) -> bool
 {
     in_range(limit)
         & ((1 <= protocol)
-            & ((protocol <= 7) & ((extension <= 15) & ((extension == 0) | (protocol == 6)))))
+            & ((protocol <= MOST_PROTOCOL)
+                & ((extension <= MOST_EXTENSION)
+                    & ((extension == 0) | (protocol == EXTENDED_PROTOCOL)))))
 }
 
 // The first refusal that holds, for a data unit of n octets and a packet of `total`; 0 where none does.
@@ -130,7 +143,7 @@ fn unwrap_refusal(limit: usize, p: &[u8]) -> u8
     if !formed(limit, p) | (version(p) == 0) {
         return refusals::PACKET;
     }
-    if ((extension(p) != 0) & (protocol(p) != 6)) | (reserved(p) != 0) {
+    if ((extension(p) != 0) & (protocol(p) != EXTENDED_PROTOCOL)) | (reserved(p) != 0) {
         return refusals::SPARE;
     }
     0

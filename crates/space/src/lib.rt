@@ -62,6 +62,13 @@ const LENGTH: Place = Place {
     width: 16,
 };
 
+// The greatest value of each field that its type does not bound and that is more than a bit.
+const MOST_APID: u16 = 2047;
+
+const MOST_FLAGS: u8 = 3;
+
+const MOST_COUNT: u16 = 16383;
+
 // A field of eight bits at most.
 fn narrow(word: u64, at: Place) -> u8
     requires { ⌜ at .width ≤ 8 ⌝ }
@@ -107,7 +114,8 @@ fn in_range(h: SpaceHeader) -> bool
 {
     (h.version == 0)
         & ((h.packet_type <= 1)
-            & ((h.secondary <= 1) & ((h.apid <= 2047) & ((h.flags <= 3) & (h.count <= 16383)))))
+            & ((h.secondary <= 1)
+                & ((h.apid <= MOST_APID) & ((h.flags <= MOST_FLAGS) & (h.count <= MOST_COUNT)))))
 }
 
 // The header as one word of 48 bits.
