@@ -155,15 +155,15 @@ fn frame(
     requires { ⌜ Room (run .waiting) (now out) ⌝ }
     ensures { λ r. ⌜ Room (r .waiting) (now (out .exit)) ⌝ }
 {
-    let extractor = run.extractor;
-    let judge = run.judge;
-    let heard = hear(s, extractor, store, frame, out, run.waiting);
-    let judged = judge::frame(s, judge, tried, frame);
-    let extractor = heard.next;
-    let judge = judged.next;
+    let x = run.extractor;
+    let j = run.judge;
+    let heard = hear(s, x, store, frame, out, run.waiting);
+    let judged = judge::frame(s, j, tried, frame);
+    let x = heard.next;
+    let j = judged.next;
     Run {
-        extractor,
-        judge,
+        extractor: x,
+        judge: j,
         waiting: heard.waiting,
     }
 }
@@ -176,8 +176,8 @@ fn conclude(s: Settings, run: Run, reader: Reader, tried: &[u8], out: &mut [u8])
     let waiting = run.waiting;
     match reader {
         Reader::Ended { .. } => {
-            let judge = run.judge;
-            lines::verdict(out, waiting, judge::close(s, judge, tried))
+            let j = run.judge;
+            lines::verdict(out, waiting, judge::close(s, j, tried))
         }
         Reader::Bad { record } => lines::bad_record(out, waiting, record),
         Reader::Running { .. } => waiting,

@@ -123,14 +123,14 @@ fn counted(limit: usize, len: usize, size: usize, total: usize) -> Seen
 }
 
 // The length field of an encapsulation header, its second half; 0 where it is not all there.
-fn stated(octets: &[u8], lol: u8) -> u32
-    ensures { λ r. ⌜ r ≡ number-at (header-length lol / 2) (header-length lol / 2) (now (octets .entry)) ⌝ }
+fn stated(start: &[u8], lol: u8) -> u32
+    ensures { λ r. ⌜ r ≡ number-at (header-length lol / 2) (header-length lol / 2) (now (start .entry)) ⌝ }
 {
     match lol {
         0 => 0,
-        1 => octets::octet(octets, 1) as u32,
-        2 => octets::number2(octets, 2) as u32,
-        _ => octets::number4(octets, 4),
+        1 => octets::octet(start, 1) as u32,
+        2 => octets::number2(start, 2) as u32,
+        _ => octets::number4(start, 4),
     }
 }
 
@@ -142,12 +142,12 @@ fn total_of(length: u32) -> usize
 }
 
 // What an encapsulation packet's first octets say.
-fn encapsulation(limit: usize, protocol: u8, lol: u8, octets: &[u8]) -> Seen
-    ensures { λ r. ⌜ seen r ≡ encapsulation limit protocol lol (now (octets .entry)) ⌝ }
+fn encapsulation(limit: usize, protocol: u8, lol: u8, start: &[u8]) -> Seen
+    ensures { λ r. ⌜ seen r ≡ encapsulation limit protocol lol (now (start .entry)) ⌝ }
 {
     if lol != 0 {
-        let total = total_of(stated(octets, lol));
-        return counted(limit, octets.len(), header_length(lol), total);
+        let total = total_of(stated(start, lol));
+        return counted(limit, start.len(), header_length(lol), total);
     }
     if protocol == IDLE_PROTOCOL {
         return Seen::Whole { total: 1 };
@@ -156,108 +156,108 @@ fn encapsulation(limit: usize, protocol: u8, lol: u8, octets: &[u8]) -> Seen
 }
 
 // A field of one of a packet's octets.
-fn octet_field(octets: &[u8], index: usize, at: Place) -> u8
-    ensures { λ r. ⌜ r ≡ read at (getD (now (octets .entry)) index 0) ⌝ }
+fn octet_field(start: &[u8], index: usize, at: Place) -> u8
+    ensures { λ r. ⌜ r ≡ read at (getD (now (start .entry)) index 0) ⌝ }
 {
-    octets::field(octets::octet(octets, index) as u64, at) as u8
+    octets::field(octets::octet(start, index) as u64, at) as u8
 }
 
 // The fields of the first octet.
-fn version(octets: &[u8]) -> u8
-    ensures { λ r. ⌜ r ≡ packet-version (getD (now (octets .entry)) 0 0) ⌝ }
+fn version(start: &[u8]) -> u8
+    ensures { λ r. ⌜ r ≡ packet-version (getD (now (start .entry)) 0 0) ⌝ }
 {
-    octet_field(octets, 0, VERSION)
+    octet_field(start, 0, VERSION)
 }
 
-fn protocol(octets: &[u8]) -> u8
-    ensures { λ r. ⌜ r ≡ protocol-of (getD (now (octets .entry)) 0 0) ⌝ }
+fn protocol(start: &[u8]) -> u8
+    ensures { λ r. ⌜ r ≡ protocol-of (getD (now (start .entry)) 0 0) ⌝ }
 {
-    octet_field(octets, 0, PROTOCOL)
+    octet_field(start, 0, PROTOCOL)
 }
 
-fn length_of_length(octets: &[u8]) -> u8
-    ensures { λ r. ⌜ r ≡ length-of-length (getD (now (octets .entry)) 0 0) ⌝ }
+fn length_of_length(start: &[u8]) -> u8
+    ensures { λ r. ⌜ r ≡ length-of-length (getD (now (start .entry)) 0 0) ⌝ }
 {
-    octet_field(octets, 0, LENGTH_OF_LENGTH)
+    octet_field(start, 0, LENGTH_OF_LENGTH)
 }
 
 // A space packet's APID.
-fn apid(octets: &[u8]) -> u16
-    requires { ⌜ 2 ≤ length (now octets) ⌝ }
-    ensures { λ r. ⌜ r ≡ apid (now (octets .entry)) ⌝ }
+fn apid(start: &[u8]) -> u16
+    requires { ⌜ 2 ≤ length (now start) ⌝ }
+    ensures { λ r. ⌜ r ≡ apid (now (start .entry)) ⌝ }
 {
-    octets::field(octets::number2(octets, 0) as u64, APID) as u16
+    octets::field(octets::number2(start, 0) as u64, APID) as u16
 }
 
 // What the first octets of a packet say of its length, as many as there are. No limit is refused.
-pub fn read_length(limit: usize, octets: &[u8]) -> Seen
-    ensures { λ r. ⌜ seen r ≡ look limit (now (octets .entry)) ⌝ }
+pub fn read_length(limit: usize, start: &[u8]) -> Seen
+    ensures { λ r. ⌜ seen r ≡ look limit (now (start .entry)) ⌝ }
 {
-    let len = octets.len();
+    let len = start.len();
     if len == 0 {
         return Seen::More;
     }
-    let version = version(octets);
+    let version = version(start);
     if version == 0 {
         return counted(
             limit,
             len,
             SPACE_HEADER,
-            octets::number2(octets, 4) as usize + LENGTH_LESS,
+            octets::number2(start, 4) as usize + LENGTH_LESS,
         );
     }
     if version == 7 {
-        return encapsulation(limit, protocol(octets), length_of_length(octets), octets);
+        return encapsulation(limit, protocol(start), length_of_length(start), start);
     }
     Seen::Damaged
 }
 
 // Whether octets that begin a packet begin an idle one.
-pub fn is_idle(octets: &[u8]) -> bool
-    ensures { λ r. ⌜ r ≡ is-idle (now (octets .entry)) ⌝ }
+pub fn is_idle(start: &[u8]) -> bool
+    ensures { λ r. ⌜ r ≡ is-idle (now (start .entry)) ⌝ }
 {
-    if version(octets) == 0 {
-        return octets::field(octets::number2(octets, 0) as u64, APID) == IDLE_APID;
+    if version(start) == 0 {
+        return octets::field(octets::number2(start, 0) as u64, APID) == IDLE_APID;
     }
-    protocol(octets) == IDLE_PROTOCOL
+    protocol(start) == IDLE_PROTOCOL
 }
 
 // What a whole header tells of its packet.
-fn tell(octets: &[u8], total: usize) -> Header
-    requires { ⌜ OfAKind (now octets) ⌝ }
-    ensures { λ r. ⌜ answer r ≡ told (now (octets .entry)) (whole total) ⌝ }
+fn tell(start: &[u8], total: usize) -> Header
+    requires { ⌜ OfAKind (now start) ⌝ }
+    ensures { λ r. ⌜ answer r ≡ told (now (start .entry)) (whole total) ⌝ }
 {
-    if version(octets) == 0 {
+    if version(start) == 0 {
         return Header::Whole {
             kind: Kind::Space,
-            key: apid(octets),
-            idle: is_idle(octets),
+            key: apid(start),
+            idle: is_idle(start),
             size: SPACE_HEADER,
             total,
         };
     }
     Header::Whole {
         kind: Kind::Encapsulation,
-        key: protocol(octets) as u16,
-        idle: is_idle(octets),
-        size: header_length(length_of_length(octets)),
+        key: protocol(start) as u16,
+        idle: is_idle(start),
+        size: header_length(length_of_length(start)),
         total,
     }
 }
 
 // What octets that begin a packet tell, as many as there are: `limit` is the greatest packet.
-pub fn read_header(limit: usize, octets: &[u8]) -> Header
-    ensures { λ r. ⌜ answer r ≡ reading limit (now (octets .entry)) ⌝ }
+pub fn read_header(limit: usize, start: &[u8]) -> Header
+    ensures { λ r. ⌜ answer r ≡ reading limit (now (start .entry)) ⌝ }
 {
     if !in_range(limit) {
         return Header::Refused {
             refusal: refusals::SETTING,
         };
     }
-    match read_length(limit, octets) {
+    match read_length(limit, start) {
         Seen::More => Header::More,
         Seen::Damaged => Header::Damaged,
-        Seen::Whole { total } => tell(octets, total),
+        Seen::Whole { total } => tell(start, total),
     }
 }
 

@@ -61,8 +61,8 @@ fn next_record(r: Reader) -> u64
 {
     match r {
         Reader::Start => 0,
-        Reader::Running { frames, .. } => frames as u64 + 1,
-        Reader::Ended { frames } => frames as u64 + 2,
+        Reader::Running { frames: count, .. } => count as u64 + 1,
+        Reader::Ended { frames: count } => count as u64 + 2,
         Reader::Bad { record } => record,
     }
 }
@@ -81,10 +81,11 @@ fn reachable(r: Reader) -> bool
 {
     match r {
         Reader::Start => true,
-        Reader::Running { settings, frames } => {
-            fits(settings) & ((settings.fill == 0) & (frames <= MOST_FRAMES))
-        }
-        Reader::Ended { frames } => frames <= MOST_FRAMES,
+        Reader::Running {
+            settings,
+            frames: count,
+        } => fits(settings) & ((settings.fill == 0) & (count <= MOST_FRAMES)),
+        Reader::Ended { frames: count } => count <= MOST_FRAMES,
         Reader::Bad { record } => record <= MOST_FRAMES as u64 + 2,
     }
 }
@@ -105,8 +106,11 @@ pub fn body_length(r: Reader, kind: u8) -> usize
     }
     match r {
         Reader::Start => if kind == SETUP { SETUP_LENGTH } else { 0 },
-        Reader::Running { settings, frames } => {
-            if (kind == FRAME) & (frames < MOST_FRAMES) {
+        Reader::Running {
+            settings,
+            frames: count,
+        } => {
+            if (kind == FRAME) & (count < MOST_FRAMES) {
                 frame_length(settings)
             } else {
                 0
@@ -132,22 +136,22 @@ fn take_setup(kind: u8, body: &[u8]) -> Reader
 }
 
 // A frame or the end, after so many frames.
-fn take_next(s: Settings, frames: u32, kind: u8, body: &[u8]) -> Reader
-    requires { ⌜ reachable (Reader.Running s frames) ≡ true ⌝ }
-    ensures { λ r. ⌜ r ≡ taken (Reader.Running s frames) kind (now (body .entry)) ⌝ }
+fn take_next(s: Settings, count: u32, kind: u8, body: &[u8]) -> Reader
+    requires { ⌜ reachable (Reader.Running s count) ≡ true ⌝ }
+    ensures { λ r. ⌜ r ≡ taken (Reader.Running s count) kind (now (body .entry)) ⌝ }
 {
-    if (kind == FRAME) & ((frames < MOST_FRAMES) & frames::has_length(s, body.len())) {
+    if (kind == FRAME) & ((count < MOST_FRAMES) & frames::has_length(s, body.len())) {
         return Reader::Running {
             settings: s,
-            frames: frames + 1,
+            frames: count + 1,
         };
     }
     if (kind == END) & (body.len() == 0) {
-        return Reader::Ended { frames };
+        return Reader::Ended { frames: count };
     }
     bad(Reader::Running {
         settings: s,
-        frames,
+        frames: count,
     })
 }
 
@@ -160,7 +164,10 @@ pub fn take(r: Reader, kind: u8, body: &[u8]) -> Reader
     }
     match r {
         Reader::Start => take_setup(kind, body),
-        Reader::Running { settings, frames } => take_next(settings, frames, kind, body),
+        Reader::Running {
+            settings,
+            frames: count,
+        } => take_next(settings, count, kind, body),
         Reader::Ended { .. } => bad(r),
         Reader::Bad { .. } => bad(r),
     }

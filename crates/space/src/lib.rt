@@ -86,12 +86,12 @@ fn wide(word: u64, at: Place) -> u16
 }
 
 // Reads the header in the first six octets; fewer, or another version, are refused.
-pub fn read_space(octets: &[u8]) -> SpaceRead
-    ensures { λ r. ⌜ space-reads r ≡ space-reading (now (octets .entry)) ⌝ }
+pub fn read_space(start: &[u8]) -> SpaceRead
+    ensures { λ r. ⌜ space-reads r ≡ space-reading (now (start .entry)) ⌝ }
 {
-    let word = octets::number6(octets, 0);
+    let word = octets::number6(start, 0);
     let version = narrow(word, VERSION);
-    if (octets.len() < HEADER) | (version != 0) {
+    if (start.len() < HEADER) | (version != 0) {
         return SpaceRead::Refused {
             refusal: refusals::PACKET,
         };

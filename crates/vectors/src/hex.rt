@@ -37,20 +37,23 @@ fn octet(line: &[u8], at: usize) -> usize
 
 // The octets from `from` to the line's end; none where they are not written so, or are more than 4,096.
 pub(crate) fn read(line: &[u8], from: usize) -> Given {
-    let mut octets = [0u8; 4096];
+    let mut given = [0u8; 4096];
     let mut at = from;
     let mut size = 0;
     while at < line.len() && size < 4096 {
         let octet = octet(line, at);
         if octet > 255 {
-            return Given { size: 0, octets };
+            return NONE;
         }
-        octets[size] = octet as u8;
+        given[size] = octet as u8;
         at += 3;
         size += 1;
     }
     if at != line.len() + 1 {
         size = 0;
     }
-    Given { size, octets }
+    Given {
+        size,
+        octets: given,
+    }
 }

@@ -76,11 +76,11 @@ pub(crate) fn begin(label: Given, n: Numbers) -> Ends {
 
 // The line from `from` on for a label.
 pub(crate) fn label(e: Ends, line: &[u8], from: usize) -> Ends {
-    let mut octets = [0u8; 4096];
-    octets::lay(&mut octets, 0, line, from, line.len());
+    let mut given = [0u8; 4096];
+    octets::lay(&mut given, 0, line, from, line.len());
     let label = Given {
         size: octets::rest(line.len(), from),
-        octets,
+        octets: given,
     };
     let mut after = e;
     after.label = label;
@@ -138,19 +138,25 @@ fn found<'a>(limit: usize, frame: &'a [u8], store: &'a [u8], f: Found) -> bool {
 
 // Steps through a frame that is entered until it is spent: with the longest zone that takes 2,047 steps at most.
 fn walk(s: Settings, r: Receiver, frame: &[u8]) -> Receiver {
-    let mut extractor = r.extractor;
+    let mut x = r.extractor;
     let mut store = r.store;
     let mut left = LONGEST_ZONE;
     while left > 0 {
-        let step = extractor::step(s, extractor, &mut store, frame);
-        extractor = step.next;
+        let step = extractor::step(s, x, &mut store, frame);
+        x = step.next;
         let f = step.found;
         if !found(s.limit, frame, &store, f) {
-            return Receiver { extractor, store };
+            return Receiver {
+                extractor: x,
+                store,
+            };
         }
         left -= 1;
     }
-    Receiver { extractor, store }
+    Receiver {
+        extractor: x,
+        store,
+    }
 }
 
 // All that the extractor says of a frame.
@@ -166,8 +172,12 @@ fn listen(s: Settings, r: Receiver, frame: &[u8]) -> Receiver {
         }
         Entered::Taken { entry } => {
             entered(entry);
-            let extractor = answer.next;
-            walk(s, Receiver { extractor, store }, frame)
+            let next = answer.next;
+            let receiver = Receiver {
+                extractor: next,
+                store,
+            };
+            walk(s, receiver, frame)
         }
     }
 }
@@ -291,8 +301,8 @@ fn put_once(e: Ends, p: &[u8]) {
 
 // One call with a packet of n octets, of which the first are given and the others 0. The channel stays as it was.
 pub(crate) fn put_long(e: Ends, n: usize, first: &[u8]) -> Ends {
-    let mut octets = text::longest(0);
-    octets::lay(&mut octets, 0, first, 0, first.len());
-    put_once(e, octets::part(&octets, 0, n));
+    let mut packet = text::longest(0);
+    octets::lay(&mut packet, 0, first, 0, first.len());
+    put_once(e, octets::part(&packet, 0, n));
     e
 }

@@ -66,8 +66,8 @@ pub(crate) fn end() {
 
 // What a line begins with.
 pub(crate) fn label(l: Given) {
-    let octets = l.octets;
-    text(octets::part(&octets, 0, l.size));
+    let given = l.octets;
+    text(octets::part(&given, 0, l.size));
 }
 
 // A line of the input, after a space.

@@ -38,8 +38,8 @@ fn act(asked: Asked, line: &[u8], e: Ends) -> Ends {
     let verb = asked.verb;
     let n = asked.numbers;
     let given = hex::read(line, n.last);
-    let octets = given.octets;
-    obey(verb, n, octets::part(&octets, 0, given.size), line, e)
+    let buffer = given.octets;
+    obey(verb, n, octets::part(&buffer, 0, given.size), line, e)
 }
 
 // Every line, up to one that is not understood.

@@ -18,7 +18,7 @@ returns c =
     let at-read = c .before in
     let at-start = at-read .before .before in
     c .field .ensures
-    ∙ ap (λ (word : ℕ). field word 0 11) (at-read .number2 .ensures ∙ number-within 2 0 (at-start .args .octets .now) (at-start .pre))
+    ∙ ap (λ (word : ℕ). field word 0 11) (at-read .number2 .ensures ∙ number-within 2 0 (at-start .args .start .now) (at-start .pre))
 
 pub apid-spec : {M : Type 1} → statement M
 apid-spec =

@@ -18,21 +18,21 @@ returns c =
     let at-if1 = at-stated .before in
     let a = at-if1 .before .before .args in
     c .counted .ensures
-    ∙ ap (λ (n : ℕ). counted (a .limit) (length (a .octets .now)) n (at-total .total-of .result)) (at-size .header-length .ensures)
-    ∙ ap (counted (a .limit) (length (a .octets .now)) (header-length (a .lol))) (at-total .total-of .ensures ∙ at-stated .stated .ensures)
-    ∙ sym (half-read (a .limit) (a .octets .now) (a .protocol) (a .lol) (at-if1 .if1 .taken))
+    ∙ ap (λ (n : ℕ). counted (a .limit) (length (a .start .now)) n (at-total .total-of .result)) (at-size .header-length .ensures)
+    ∙ ap (counted (a .limit) (length (a .start .now)) (header-length (a .lol))) (at-total .total-of .ensures ∙ at-stated .stated .ensures)
+    ∙ sym (half-read (a .limit) (a .start .now) (a .protocol) (a .lol) (at-if1 .if1 .taken))
 
 returns-2 : tie.Need-returns-2
 unfolding seen
 returns-2 c =
     let a = c .before .before .before .args in
-    sym (ap (λ (n : ℕ). encapsulation (a .limit) (a .protocol) n (a .octets .now)) (c .before .if1 .left) ∙ none-read (a .limit) (a .octets .now) (a .protocol) (c .if2 .taken))
+    sym (ap (λ (n : ℕ). encapsulation (a .limit) (a .protocol) n (a .start .now)) (c .before .if1 .left) ∙ none-read (a .limit) (a .start .now) (a .protocol) (c .if2 .taken))
 
 returns-3 : tie.Need-returns-3
 unfolding seen
 returns-3 c =
     let a = c .before .before .before .args in
-    sym (ap (λ (n : ℕ). encapsulation (a .limit) (a .protocol) n (a .octets .now)) (c .before .if1 .left) ∙ none-damaged (a .limit) (a .octets .now) (a .protocol) (c .if2 .left))
+    sym (ap (λ (n : ℕ). encapsulation (a .limit) (a .protocol) n (a .start .now)) (c .before .if1 .left) ∙ none-damaged (a .limit) (a .start .now) (a .protocol) (c .if2 .left))
 
 pub encapsulation-spec : {M : Type 1} → statement M
 encapsulation-spec =

@@ -14,7 +14,7 @@ unfolding is-idle
 returns c =
     let at-read = c .before in
     let at-version = at-read .before .before in
-    let os = at-version .before .before .args .octets .now in
+    let os = at-version .before .before .args .start .now in
     let v : packet-version (getD os 0 0) ≡ 0 = sym (at-version .version .ensures) ∙ at-read .before .if1 .taken in
     rw (c .field .ensures, at-read .number2 .ensures, eq-eqb _ _ v) (idle-apid os v)
 

@@ -25,8 +25,8 @@ unfolding seen
 tell-requires c κs =
     let at-look = c .before .before .before in
     let a = at-look .before .before .before .before .args in
-    let e : look (a .limit) (a .octets .now) ≡ whole _ = sym (at-look .read-length .ensures) ∙ ap seen (c .before .total .given .1) in
-    look-kind (a .limit) (a .octets .now) e
+    let e : look (a .limit) (a .start .now) ≡ whole _ = sym (at-look .read-length .ensures) ∙ ap seen (c .before .total .given .1) in
+    look-kind (a .limit) (a .start .now) e
 
 returns-2 : tie.Need-returns-2
 unfolding answer reading told seen

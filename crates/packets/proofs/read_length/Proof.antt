@@ -14,7 +14,7 @@ returns : tie.Need-returns
 unfolding seen
 returns c =
     let a = c .before .before .args in
-    sym (look-none (a .limit) (a .octets .now) (c .if1 .taken))
+    sym (look-none (a .limit) (a .start .now) (c .if1 .taken))
 
 returns-2 : tie.Need-returns-2
 returns-2 c =
@@ -22,8 +22,8 @@ returns-2 c =
     let at-if1 = at-version .before in
     let a = at-if1 .before .before .args in
     c .counted .ensures
-    ∙ ap (λ (n : ℕ). counted (a .limit) (length (a .octets .now)) 6 (n + 7)) (c .before .number2 .ensures)
-    ∙ sym (look-space (a .limit) (a .octets .now) (at-if1 .if1 .left) (sym (at-version .version .ensures) ∙ c .before .before .if2 .taken))
+    ∙ ap (λ (n : ℕ). counted (a .limit) (length (a .start .now)) 6 (n + 7)) (c .before .number2 .ensures)
+    ∙ sym (look-space (a .limit) (a .start .now) (at-if1 .if1 .left) (sym (at-version .version .ensures) ∙ c .before .before .if2 .taken))
 
 returns-3 : tie.Need-returns-3
 returns-3 c =
@@ -32,9 +32,9 @@ returns-3 c =
     let at-if1 = at-version .before in
     let a = at-if1 .before .before .args in
     c .encapsulation .ensures
-    ∙ ap (λ (p : ℕ). encapsulation (a .limit) p (c .before .length-of-length .result) (a .octets .now)) (c .before .before .protocol .ensures)
-    ∙ ap (λ (n : ℕ). encapsulation (a .limit) (protocol-of (getD (a .octets .now) 0 0)) n (a .octets .now)) (c .before .length-of-length .ensures)
-    ∙ sym (look-encapsulation (a .limit) (a .octets .now) (at-if1 .if1 .left) (sym (at-version .version .ensures) ∙ at-if3 .if3 .taken))
+    ∙ ap (λ (p : ℕ). encapsulation (a .limit) p (c .before .length-of-length .result) (a .start .now)) (c .before .before .protocol .ensures)
+    ∙ ap (λ (n : ℕ). encapsulation (a .limit) (protocol-of (getD (a .start .now) 0 0)) n (a .start .now)) (c .before .length-of-length .ensures)
+    ∙ sym (look-encapsulation (a .limit) (a .start .now) (at-if1 .if1 .left) (sym (at-version .version .ensures) ∙ at-if3 .if3 .taken))
 
 returns-4 : tie.Need-returns-4
 unfolding seen
@@ -43,7 +43,7 @@ returns-4 c =
     let at-if1 = at-version .before in
     let a = at-if1 .before .before .args in
     let v = at-version .version .ensures in
-    sym (look-other (a .limit) (a .octets .now) (at-if1 .if1 .left) (λ e. c .before .if2 .left (v ∙ e)) (λ e. c .if3 .left (v ∙ e)))
+    sym (look-other (a .limit) (a .start .now) (at-if1 .if1 .left) (λ e. c .before .if2 .left (v ∙ e)) (λ e. c .if3 .left (v ∙ e)))
 
 pub read-length-spec : {M : Type 1} → statement M
 read-length-spec =

@@ -19,26 +19,26 @@ half os e = ap (λ (size : ℕ). number-at (size / 2) (size / 2) os) e
 returns : tie.Need-returns
 unfolding header-length number number-from
 returns c =
-    let os = c .before .before .args .octets .now in
+    let os = c .before .before .args .start .now in
     sym (half os (ap header-length (c .match .keys1)) ∙ number-within 0 0 os (omega arith))
 
 returns-2 : tie.Need-returns-2
 unfolding header-length
 returns-2 c =
-    let os = c .before .before .before .args .octets .now in
+    let os = c .before .before .before .args .start .now in
     c .octet .ensures ∙ sym (octet-at os 1) ∙ sym (half os (ap header-length (c .before .match .keys2)))
 
 returns-3 : tie.Need-returns-3
 unfolding header-length
 returns-3 c =
-    let os = c .before .before .before .args .octets .now in
+    let os = c .before .before .before .args .start .now in
     c .number2 .ensures ∙ sym (half os (ap header-length (c .before .match .keys3)))
 
 returns-4 : tie.Need-returns-4
 returns-4 c =
     let a = c .before .before .before .args in
     let m = c .before .match .rest in
-    c .number4 .ensures ∙ half (a .octets .now) (long-header (a .lol) (m .0 .0 .1) (m .0 .1) (m .1))
+    c .number4 .ensures ∙ half (a .start .now) (long-header (a .lol) (m .0 .0 .1) (m .0 .1) (m .1))
 
 pub stated-spec : {M : Type 1} → statement M
 stated-spec =

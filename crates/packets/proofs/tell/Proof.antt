@@ -20,7 +20,7 @@ returns : tie.Need-returns
 unfolding answer version-of told key-of size-of
 returns c =
     let at-if1 = c .before .before in
-    let os = at-if1 .before .before .before .args .octets .now in
+    let os = at-if1 .before .before .before .args .start .now in
     let v : packet-version (getD os 0 0) ≡ 0 = sym (at-if1 .before .version .ensures) ∙ at-if1 .if1 .taken in
     rw (v, c .before .apid .ensures, c .is-idle .ensures) refl
 
@@ -31,7 +31,7 @@ returns-2 c =
     let at-idle = at-lol .before in
     let at-if1 = at-idle .before .before in
     let at-start = at-if1 .before .before .before in
-    let os = at-start .args .octets .now in
+    let os = at-start .args .start .now in
     let other : packet-version (getD os 0 0) ≡ 0 → ⊥ = λ e. at-if1 .if1 .left (at-if1 .before .version .ensures ∙ e) in
     let v : packet-version (getD os 0 0) ≡ 7 = ⊎-elim (λ k. absurd (other (k .0))) (λ k. k) (at-start .pre) in
     rw (

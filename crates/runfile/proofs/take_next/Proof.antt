@@ -15,7 +15,7 @@ add-t11 : tie.Need-add-t11
 add-t11 c =
     let a = c .before .before .before .args in
     let frame = and-true (eqb (a .kind) 2) _ (c .if1 .taken) .1 in
-    record { fits = omega (arith, ltb-true (a .frames) most-frames (and-true (ltb (a .frames) most-frames) _ frame .0)) }
+    record { fits = omega (arith, ltb-true (a .count) most-frames (and-true (ltb (a .count) most-frames) _ frame .0)) }
 
 returns : tie.Need-returns
 unfolding taken

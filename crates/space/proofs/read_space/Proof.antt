@@ -26,7 +26,7 @@ refuses os e = rw e refl
 returns : tie.Need-returns
 returns c =
     let at-word = c .before .before in
-    let os : List ℕ = at-word .before .before .args .octets .now in
+    let os : List ℕ = at-word .before .before .args .start .now in
     refuses os (tested os true (at-word .number6 .ensures) (c .before .narrow .ensures) (c .if1 .taken))
 
 -- the fields of a word, one by one
@@ -47,7 +47,7 @@ returns-2 c =
     let at-if1 = at-type .before in
     let at-version = at-if1 .before in
     let at-word = at-version .before in
-    let os : List ℕ = at-word .before .before .args .octets .now in
+    let os : List ℕ = at-word .before .before .args .start .now in
     fields os (tested os false (at-word .number6 .ensures) (at-version .narrow .ensures) (at-if1 .if1 .left)) (at-word .number6 .ensures)
     (at-version .narrow .ensures) (at-type .narrow2 .ensures) (at-secondary .narrow3 .ensures) (at-apid .wide .ensures)
     (at-flags .narrow4 .ensures) (c .before .wide2 .ensures) (c .wide3 .ensures)

@@ -7,10 +7,10 @@ use Rattle.vectors.proofs.hex.read.Statement.{statement}
 use Rattle.vectors.proofs.hex.read.Tie as tie
 
 abbrev Inv-loop : tie.InvT-loop
-Inv-loop line from octets₀ at₀ size₀ octets at size = size ≤ at
+Inv-loop line from given₀ at₀ size₀ given at size = size ≤ at
 
 abbrev μ-loop : tie.MeasureT-loop
-μ-loop line from octets₀ at₀ size₀ octets at size = length line - at
+μ-loop line from given₀ at₀ size₀ given at size = length line - at
 
 loop-holds : tie.Need-loop-holds Inv-loop μ-loop
 loop-holds c = search needs
@@ -21,11 +21,11 @@ octet-requires c κs = search needs
 returns : tie.Need-returns Inv-loop μ-loop
 returns c = search needs
 
-cast-octets : tie.Need-cast-octets Inv-loop μ-loop
-cast-octets c = search needs
+cast-given : tie.Need-cast-given Inv-loop μ-loop
+cast-given c = search needs
 
-array-write-octets : tie.Need-array-write-octets Inv-loop μ-loop
-array-write-octets c = search needs
+array-write-given : tie.Need-array-write-given Inv-loop μ-loop
+array-write-given c = search needs
 
 add-at : tie.Need-add-at Inv-loop μ-loop
 add-at c = search needs
@@ -57,8 +57,8 @@ read-spec =
     loop-holds
     octet-requires
     returns
-    cast-octets
-    array-write-octets
+    cast-given
+    array-write-given
     add-at
     add-size
     loop-less

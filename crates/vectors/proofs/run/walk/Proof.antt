@@ -7,10 +7,10 @@ use Rattle.vectors.proofs.run.walk.Statement.{statement}
 use Rattle.vectors.proofs.run.walk.Tie as tie
 
 abbrev Inv-loop : tie.InvT-loop
-Inv-loop s frame extractor₀ store₀ left₀ extractor store left = length store ≡ 4096
+Inv-loop s frame x₀ store₀ left₀ x store left = length store ≡ 4096
 
 abbrev μ-loop : tie.MeasureT-loop
-μ-loop s frame extractor₀ store₀ left₀ extractor store left = left
+μ-loop s frame x₀ store₀ left₀ x store left = left
 
 loop-holds : tie.Need-loop-holds Inv-loop μ-loop
 loop-holds c = search needs
