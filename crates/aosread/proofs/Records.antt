@@ -13,8 +13,8 @@ use Rattle.octets.specs.Basics.{pick, part}
 use Rattle.octets.proofs.Written.{length-run}
 use Rattle.frames.specs.declared.Settings.{Settings}
 use Rattle.runfile.specs.Steps.{body-length, taken, closed}
-use Rattle.runfile.specs.declared.Reader.{Reader}
-use Rattle.runfile.specs.declared.Reader.the-variants.{Start, Running, Ended, Bad}
+use Rattle.runfile.specs.declared.Progress.{Progress}
+use Rattle.runfile.specs.declared.Progress.the-variants.{Start, Running, Ended, Bad}
 use Rattle.runfile.proofs.Bounds.{most-body, body-most}
 use Rattle.runfile.proofs.Ends.{left, taken-left}
 use Rattle.aosread.specs.Input.{Between, Inside, unread, StandFirst}
@@ -89,30 +89,30 @@ record-there u v w before mid after to hu hv hw e f some h k =
     ∙ first-first u v before mid (unread w after) (first-most u v before mid hu hv e) e f
 
 -- no body is longer
-pub short-body : (r : Reader) (kind n : ℕ) → n ≡ body-length r kind → n ≤ most-body
+pub short-body : (r : Progress) (kind n : ℕ) → n ≡ body-length r kind → n ≤ most-body
 short-body r kind n e = rw e (body-most r kind)
 
--- ---- the reader
+-- ---- how far the run is read
 
-some-left : (r : Reader) (kind : ℕ) (body : List ℕ) → 0 < left (taken r kind body) → 0 < left r
+some-left : (r : Progress) (kind : ℕ) (body : List ℕ) → 0 < left (taken r kind body) → 0 < left r
 unfolding left taken
 some-left Start kind body h = omega arith
 some-left (Running s n) kind body h = omega arith
 some-left (Ended n) kind body h = omega arith
 some-left (Bad n) kind body h = h
 
-pub running-left : (r : Reader) (s : Settings) (n : ℕ) → r ≡ Running s n → 0 < left r
+pub running-left : (r : Progress) (s : Settings) (n : ℕ) → r ≡ Running s n → 0 < left r
 unfolding left
 running-left r s n e = rw e (omega arith)
 
-pub ended-left : (r : Reader) (n : ℕ) → r ≡ Ended n → 0 < left r
+pub ended-left : (r : Progress) (n : ℕ) → r ≡ Ended n → 0 < left r
 unfolding left
 ended-left r n e = rw e (omega arith)
 
 -- a record that is not bad leaves fewer to take
-pub next-less : (r next : Reader) (ended : Bool) (kind : ℕ) (body : List ℕ) → next ≡ pick ended (closed r) (taken r kind body)
+pub next-less : (r next : Progress) (ended : Bool) (kind : ℕ) (body : List ℕ) → next ≡ pick ended (closed r) (taken r kind body)
     → ended ≡ false → 0 < left next → left next < left r
 next-less r next ended kind body e going more =
     let here : next ≡ taken r kind body = e ∙ ap (λ (b : Bool). pick b (closed r) (taken r kind body)) going in
-    subst⁻¹ (λ (n : Reader). left n < left r) here
-    (taken-left r kind body (some-left r kind body (subst (λ (n : Reader). 0 < left n) here more)))
+    subst⁻¹ (λ (n : Progress). left n < left r) here
+    (taken-left r kind body (some-left r kind body (subst (λ (n : Progress). 0 < left n) here more)))

@@ -5,7 +5,7 @@ use Prim.Native.Nat.{ℕ, _+_, _-_, _≤_, min}
 use lib.ListN.{length, take}
 use Rattle.octets.specs.Basics.{pick, part}
 use Rattle.runfile.specs.Steps.{body-length, taken, closed}
-use Rattle.runfile.specs.declared.Reader.{Reader}
+use Rattle.runfile.specs.declared.Progress.{Progress}
 use Rattle.aosread.specs.declared.input.Unread.{Unread}
 use Rattle.aosread.specs.declared.input.Record.{Record}
 
@@ -29,10 +29,10 @@ StandFirst u buf os = take (u .to - u .from) os ≡ unread u buf
 unfoldable pub octets-of : Record → List ℕ → List ℕ
 octets-of x buf = pick (x .ended) [] (x .kind ∷ (part (x .from) (x .to) buf ++ unread (x .unread) buf))
 
--- the record that follows, its body as long as its kind says or as there is, and the reader after it; or that none follows
-pub record Follows (r : Reader) (x : Record) (u : Unread) (before after : List ℕ) : Type 0 where
+-- the record that follows, its body as long as its kind says or as there is, and how far the run is read after it; or that none follows
+pub record Follows (r : Progress) (x : Record) (u : Unread) (before after : List ℕ) : Type 0 where
   pub body : Between (x .from) (x .to) after
   pub left : Inside (x .unread) after
   pub size : x .to ≡ min (x .from + body-length r (x .kind)) (x .unread .to)
-  pub reads : x .reader ≡ pick (x .ended) (closed r) (taken r (x .kind) (part (x .from) (x .to) after))
+  pub reads : x .progress ≡ pick (x .ended) (closed r) (taken r (x .kind) (part (x .from) (x .to) after))
   pub all-there : StandFirst u before (octets-of x after)

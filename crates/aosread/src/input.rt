@@ -5,7 +5,7 @@ ghost use lib.ListN.{length, take, drop};
 ghost use Rattle.aosread.specs.Input.{Inside, unread as unread-in, StandFirst, Follows};
 use libc::STDERR_FILENO;
 use libc::STDIN_FILENO;
-use runfile::Reader;
+use runfile::Progress;
 
 // The octets of the buffer that are read and not yet taken.
 pub(crate) struct Unread {
@@ -22,8 +22,8 @@ pub(crate) struct Record {
     pub(crate) to: usize,
     // What is left behind it.
     pub(crate) unread: Unread,
-    // The run's reader after it.
-    pub(crate) reader: Reader,
+    // How far the run is read after it.
+    pub(crate) progress: Progress,
 }
 
 // Moves n octets of the buffer, from `from` on, to its front.
@@ -83,9 +83,9 @@ fn wait_for(buf: &mut [u8], unread: Unread, n: usize) -> Unread
 }
 
 // The next record.
-pub(crate) fn next(buf: &mut [u8], unread: Unread, reader: Reader) -> Record
+pub(crate) fn next(buf: &mut [u8], unread: Unread, progress: Progress) -> Record
     requires { ⌜ Inside unread (now buf) ⌝ }
-    ensures { λ r. ⌜ Follows reader r unread (now (buf .entry)) (now (buf .exit)) ⌝ }
+    ensures { λ r. ⌜ Follows progress r unread (now (buf .entry)) (now (buf .exit)) ⌝ }
 {
     let start = wait_for(buf, unread, 1);
     let at = start.from;
@@ -96,22 +96,22 @@ pub(crate) fn next(buf: &mut [u8], unread: Unread, reader: Reader) -> Record
             from: at,
             to: at,
             unread: start,
-            reader: runfile::close(reader),
+            progress: runfile::close(progress),
         };
     }
     let kind = buf[at];
-    let size = runfile::body_length(reader, kind);
+    let size = runfile::body_length(progress, kind);
     let whole = wait_for(buf, start, 1 + size);
     let from = whole.from + 1;
     let end = whole.to;
     let to = octets::least(from + size, end);
-    let reader = runfile::take(reader, kind, &buf[from..to]);
+    let progress = runfile::take(progress, kind, &buf[from..to]);
     Record {
         ended: false,
         kind,
         from,
         to,
         unread: Unread { from: to, to: end },
-        reader,
+        progress,
     }
 }

@@ -14,7 +14,7 @@ use input::Unread;
 use judge::Judge;
 use libc::STDERR_FILENO;
 use libc::STDOUT_FILENO;
-use runfile::Reader;
+use runfile::Progress;
 
 mod input;
 mod lines;
@@ -169,19 +169,19 @@ fn frame(
 }
 
 // The last line: the verdict on a run that has ended, or the number of its bad record.
-fn conclude(s: Settings, run: Run, reader: Reader, tried: &[u8], out: &mut [u8]) -> usize
+fn conclude(s: Settings, run: Run, progress: Progress, tried: &[u8], out: &mut [u8]) -> usize
     requires { ⌜ Room (run .waiting) (now out) ⌝ }
     ensures { λ r. ⌜ r ≤ length (now (out .exit)) ⌝ }
 {
     let waiting = run.waiting;
-    match reader {
-        Reader::Ended { .. } => {
+    match progress {
+        Progress::Ended { .. } => {
             let j = run.judge;
             lines::verdict(out, waiting, judge::close(s, j, tried))
         }
-        Reader::Bad { record } => lines::bad_record(out, waiting, record),
-        Reader::Running { .. } => waiting,
-        Reader::Start => waiting,
+        Progress::Bad { record } => lines::bad_record(out, waiting, record),
+        Progress::Running { .. } => waiting,
+        Progress::Start => waiting,
     }
 }
 
@@ -200,7 +200,7 @@ fn follow(
     ensures { λ r. ⌜ r ≤ length (now (out .exit)) ⌝ }
 {
     let mut unread = first;
-    let mut reader = Reader::Running {
+    let mut progress = Progress::Running {
         settings: s,
         frames: 0,
     };
@@ -210,21 +210,21 @@ fn follow(
         waiting,
     };
     loop {
-        let record = input::next(buf, unread, reader);
-        reader = record.reader;
+        let record = input::next(buf, unread, progress);
+        progress = record.progress;
         unread = record.unread;
         if record.ended {
-            return conclude(s, run, reader, tried, out);
+            return conclude(s, run, progress, tried, out);
         }
-        match reader {
-            Reader::Running { .. } => {
+        match progress {
+            Progress::Running { .. } => {
                 let from = record.from;
                 let to = record.to;
                 run = frame(s, run, store, tried, &buf[from..to], out);
             }
-            Reader::Ended { .. } => {}
-            Reader::Bad { .. } => return conclude(s, run, reader, tried, out),
-            Reader::Start => return conclude(s, run, reader, tried, out),
+            Progress::Ended { .. } => {}
+            Progress::Bad { .. } => return conclude(s, run, progress, tried, out),
+            Progress::Start => return conclude(s, run, progress, tried, out),
         }
     }
 }
@@ -234,17 +234,17 @@ fn read_run(buf: &mut [u8], store: &mut [u8], tried: &mut [u8], out: &mut [u8]) 
     requires { ⌜ Room 0 (now out) ⌝ }
     ensures { λ r. ⌜ r ≤ length (now (out .exit)) ⌝ }
 {
-    let first = input::next(buf, Unread { from: 0, to: 0 }, Reader::Start);
-    let reader = first.reader;
-    match reader {
-        Reader::Running { settings, .. } => {
+    let first = input::next(buf, Unread { from: 0, to: 0 }, Progress::Start);
+    let progress = first.progress;
+    match progress {
+        Progress::Running { settings, .. } => {
             let line = lines::setup(out, 0, settings);
             let waiting = make_room(out, line);
             follow(settings, first.unread, waiting, buf, store, tried, out)
         }
-        Reader::Bad { record } => lines::bad_record(out, 0, record),
-        Reader::Ended { .. } => 0,
-        Reader::Start => 0,
+        Progress::Bad { record } => lines::bad_record(out, 0, record),
+        Progress::Ended { .. } => 0,
+        Progress::Start => 0,
     }
 }
 

@@ -1,4 +1,4 @@
--- What settings that a setup can give are bounded by, the readers that a file can lead to, and the bodies under them.
+-- What settings that a setup can give are bounded by, the progress that a file can lead to, and the bodies under them.
 -- Assumes nothing.
 use mathlib.Core.Path.{_≡_, refl}
 use mathlib.Core.List.{List}
@@ -14,8 +14,8 @@ use Rattle.frames.specs.declared.Settings.{Settings}
 use Rattle.frames.proofs.Settled.{Settled, settled}
 use Rattle.runfile.specs.RunFile.{setup-of, fits}
 use Rattle.runfile.specs.Steps.{reachable, body-length}
-use Rattle.runfile.specs.declared.Reader.{Reader}
-use Rattle.runfile.specs.declared.Reader.the-variants.{Start, Running, Ended, Bad}
+use Rattle.runfile.specs.declared.Progress.{Progress}
+use Rattle.runfile.specs.declared.Progress.the-variants.{Start, Running, Ended, Bad}
 
 pub record Fitting (s : Settings) : Type 0 where
   pub in-numbers : Settled s
@@ -35,7 +35,7 @@ pub frame-most : (s : Settings) → fits s ≡ true → frame-length s ≤ most-
 unfolding frame-length
 frame-most s e = omega (arith, fitting s e .in-numbers .zone-most)
 
--- what a reader after n frames has where a file can lead to it
+-- what the progress after n frames has where a file can lead to it
 pub record Standing (s : Settings) (n : ℕ) : Type 0 where
   pub settings-fit : fits s ≡ true
   pub no-fill : s .fill ≡ 0
@@ -61,7 +61,7 @@ pick-le : (t : Bool) {a : ℕ} → (t ≡ true → a ≤ most-body) → pick t a
 pick-le true h = h refl
 pick-le false h = omega arith
 
-pub body-most : (r : Reader) (kind : ℕ) → body-length r kind ≤ most-body
+pub body-most : (r : Progress) (kind : ℕ) → body-length r kind ≤ most-body
 unfolding body-length
 body-most Start kind = pick-le (eqb kind 1) (λ t. omega arith)
 body-most (Running s n) kind =

@@ -14,11 +14,11 @@ use Rattle.frames.specs.Frame.{frame-length, most-frames}
 use Rattle.frames.specs.declared.Settings.{Settings}
 use Rattle.runfile.specs.RunFile.{setup-length, setup-of, fits}
 use Rattle.runfile.specs.Steps.{next-record, reachable, taken}
-use Rattle.runfile.specs.declared.Reader.{Reader}
-use Rattle.runfile.specs.declared.Reader.the-variants.{Start, Running, Ended, Bad}
+use Rattle.runfile.specs.declared.Progress.{Progress}
+use Rattle.runfile.specs.declared.Progress.the-variants.{Start, Running, Ended, Bad}
 
 -- so many records it may still take, the one that is bad among them
-unfoldable pub left : Reader → ℕ
+unfoldable pub left : Progress → ℕ
 left Start = most-frames + 3
 left (Running s n) = most-frames - n + 2
 left (Ended n) = 1
@@ -38,7 +38,7 @@ after-next s n k false true end h = omega (arith, h refl)
 after-next s n k false false true h = omega arith
 after-next s n k false false false h = omega arith
 
-pub taken-left : (r : Reader) (kind : ℕ) (body : List ℕ) → 0 < left r → left (taken r kind body) < left r
+pub taken-left : (r : Progress) (kind : ℕ) (body : List ℕ) → 0 < left r → left (taken r kind body) < left r
 unfolding left taken next-record
 taken-left Start kind body h = after-setup (setup-of body) (and (eqb kind 1) (and (eqb (length body) setup-length) (fits (setup-of body))))
 taken-left (Running s n) kind body h =

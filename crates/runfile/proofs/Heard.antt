@@ -15,12 +15,12 @@ use Rattle.frames.specs.Frame.{frame-length, most-frames}
 use Rattle.frames.specs.declared.Settings.{Settings}
 use Rattle.runfile.specs.RunFile.{setup-length, setup-of, fits, stop, with-setup, with-frame, records, stands, ending, nothing-after, reading}
 use Rattle.runfile.specs.Steps.{next-record, reachable, body-length, taken, closed, bad-of, told, heard, heard-of}
-use Rattle.runfile.specs.declared.Reader.{Reader}
-use Rattle.runfile.specs.declared.Reader.the-variants.{Start, Running, Ended, Bad}
+use Rattle.runfile.specs.declared.Progress.{Progress}
+use Rattle.runfile.specs.declared.Progress.the-variants.{Start, Running, Ended, Bad}
 use Rattle.runfile.proofs.Bounds.{running, setup-no-fill}
 
 -- a bad record ends what is heard
-heard-bad : (most : ℕ) (r : Reader) (kind n : ℕ) (os : List ℕ) → taken r kind (take (body-length r kind) os) ≡ Bad n
+heard-bad : (most : ℕ) (r : Progress) (kind n : ℕ) (os : List ℕ) → taken r kind (take (body-length r kind) os) ≡ Bad n
     → heard (suc most) r (kind ∷ os) ≡ stop (some n)
 unfolding heard told
 heard-bad most r kind n os e = rw e refl

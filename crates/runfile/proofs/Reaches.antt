@@ -1,4 +1,4 @@
--- Files lead exactly to the readers that pass the test.
+-- Files lead exactly to the progress that passes the test.
 -- Assumes nothing.
 use mathlib.Core.Path.{_≡_, refl, subst}
 use mathlib.Core.List.{List, []}
@@ -19,12 +19,12 @@ use Rattle.frames.specs.declared.Settings.{Settings}
 use Rattle.runfile.specs.RunFile.{setup-length, setup-of, fits, setup-octets}
 use Rattle.runfile.specs.Steps.{next-record, reachable, body-length, taken, closed}
 use Rattle.runfile.specs.Statements.{Reached, begins, takes, closes, ReachesAll}
-use Rattle.runfile.specs.declared.Reader.{Reader}
-use Rattle.runfile.specs.declared.Reader.the-variants.{Start, Running, Ended, Bad}
+use Rattle.runfile.specs.declared.Progress.{Progress}
+use Rattle.runfile.specs.declared.Progress.the-variants.{Start, Running, Ended, Bad}
 use Rattle.runfile.proofs.Bounds.{fitting, Standing, standing, running, setup-no-fill}
 use Rattle.runfile.proofs.RunFiles.{setup-back}
 
--- ---- a record, and the end of the input, lead on to a reader that passes
+-- ---- a record, and the end of the input, lead on to progress that passes
 
 bad-passes : (n : ℕ) → n ≤ most-frames + 2 → reachable (Bad n) ≡ true
 unfolding reachable
@@ -45,7 +45,7 @@ after-next s n true end h more = running s (h .settings-fit) (h .no-fill) (n + 1
 after-next s n false true h more = le-leb n most-frames (h .frames-most)
 after-next s n false false h more = bad-passes (n + 1) (omega (arith, h .frames-most))
 
-taken-passes : (r : Reader) (kind : ℕ) (body : List ℕ) → reachable r ≡ true → reachable (taken r kind body) ≡ true
+taken-passes : (r : Progress) (kind : ℕ) (body : List ℕ) → reachable r ≡ true → reachable (taken r kind body) ≡ true
 unfolding taken next-record
 taken-passes Start kind body e =
     let fit : Bool = and (eqb (length body) setup-length) (fits (setup-of body)) in
@@ -59,14 +59,14 @@ taken-passes (Running s n) kind body e =
 taken-passes (Ended n) kind body e = bad-passes (n + 2) (omega (arith, ended-most n e))
 taken-passes (Bad n) kind body e = e
 
-closed-passes : (r : Reader) → reachable r ≡ true → reachable (closed r) ≡ true
+closed-passes : (r : Progress) → reachable r ≡ true → reachable (closed r) ≡ true
 unfolding closed next-record
 closed-passes Start e = bad-passes 0 (omega arith)
 closed-passes (Running s n) e = bad-passes (n + 1) (omega (arith, standing s n e .frames-most))
 closed-passes (Ended n) e = rw e e
 closed-passes (Bad n) e = e
 
-reached-passes : {r : Reader} → Reached r → reachable r ≡ true
+reached-passes : {r : Progress} → Reached r → reachable r ≡ true
 unfolding reachable
 reached-passes begins = refl
 reached-passes (takes {r} kind os k o h) = taken-passes r kind (take (body-length r kind) os) (reached-passes h)
@@ -134,7 +134,7 @@ reached-bad (suc (suc n)) h =
     let e : n + 2 ≡ suc (suc n) = omega arith in
     subst (λ (m : ℕ). Reached (Bad m)) e (takes 3 [] (omega arith) tt (reached-ended least least-fits refl n (omega arith)))
 
-passes-reached : (r : Reader) → reachable r ≡ true → Reached r
+passes-reached : (r : Progress) → reachable r ≡ true → Reached r
 unfolding reachable
 passes-reached Start e = begins
 passes-reached (Running s n) e =

@@ -1,10 +1,10 @@
--- A reader that no file can lead to has no good record before it.
+-- Progress that no file can lead to has no good record before it.
 -- Assumes nothing.
 use mathlib.Core.Path.{refl}
 use Rattle.octets.proofs.Choices.{apart}
 use Rattle.runfile.specs.Steps.{reachable, body-length, taken, closed}
 use Rattle.runfile.specs.Statements.{UnreachedAreBad}
-use Rattle.runfile.specs.declared.Reader.the-variants.{Start, Running, Ended, Bad}
+use Rattle.runfile.specs.declared.Progress.the-variants.{Start, Running, Ended, Bad}
 
 pub unreached-are-bad : UnreachedAreBad
 unfolding reachable body-length taken closed

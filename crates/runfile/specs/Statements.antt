@@ -10,8 +10,8 @@ use Rattle.octets.specs.Basics.{AllOctets}
 use Rattle.frames.specs.declared.Settings.{Settings}
 use Rattle.runfile.specs.RunFile.{reading, Recorded, run-file, Run, whole}
 use Rattle.runfile.specs.Steps.{bad, reachable, body-length, taken, closed, heard-of}
-use Rattle.runfile.specs.declared.Reader.{Reader}
-use Rattle.runfile.specs.declared.Reader.the-variants.{Start}
+use Rattle.runfile.specs.declared.Progress.{Progress}
+use Rattle.runfile.specs.declared.Progress.the-variants.{Start}
 
 -- The run file of settings and frames says these and nothing else; octets without a bad record are the run file of settings and
 -- frames; and what the reader hears of any octets, handed to it record by record, is what the grammar says of them.
@@ -20,23 +20,23 @@ pub record ReadsRunFiles : Type 0 where
   pub read-run : (os : List ℕ) → AllOctets os → reading os .bad ≡ none → Run os
   pub heard-is-reading : (os : List ℕ) → heard-of os ≡ reading os
 
--- the readers that files lead to: record after record, each an octet of kind and as much of its body as there is, and then the
+-- the progress that files lead to: record after record, each an octet of kind and as much of its body as there is, and then the
 -- end of the input
-pub data Reached : Reader → Type 0 where
+pub data Reached : Progress → Type 0 where
   begins : Reached Start
-  takes : {r : Reader} (kind : ℕ) (os : List ℕ) → kind < 256 → AllOctets os → Reached r
+  takes : {r : Progress} (kind : ℕ) (os : List ℕ) → kind < 256 → AllOctets os → Reached r
       → Reached (taken r kind (take (body-length r kind) os))
-  closes : {r : Reader} → Reached r → Reached (closed r)
+  closes : {r : Progress} → Reached r → Reached (closed r)
 
--- Files lead exactly to the readers that pass the test.
+-- Files lead exactly to the progress that passes the test.
 abbrev pub ReachesAll : Type 0
-ReachesAll = (r : Reader) → Reached r ↔ (reachable r ≡ true)
+ReachesAll = (r : Progress) → Reached r ↔ (reachable r ≡ true)
 
--- From any other reader every record is bad, and so is the end of the input, at the number of the record that would come next.
-pub record TakesNothing (r : Reader) : Type 0 where
+-- From any other progress every record is bad, and so is the end of the input, at the number of the record that would come next.
+pub record TakesNothing (r : Progress) : Type 0 where
   pub no-body : (kind : ℕ) → body-length r kind ≡ 0
   pub not-taken : (kind : ℕ) (body : List ℕ) → taken r kind body ≡ bad r
   pub not-closed : closed r ≡ bad r
 
 abbrev pub UnreachedAreBad : Type 0
-UnreachedAreBad = (r : Reader) → reachable r ≡ false → TakesNothing r
+UnreachedAreBad = (r : Progress) → reachable r ≡ false → TakesNothing r

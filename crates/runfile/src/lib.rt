@@ -1,4 +1,4 @@
-// Run files: the records of a run, read one after the other by a reader that is passed by value and holds no octet of them.
+// Run files: the records of a run, read one after the other. The progress of a reader is passed by value and holds no octet of them.
 ghost use mathlib.Core.Path.{_≡_};
 ghost use mathlib.Core.Bool.{true};
 ghost use Rattle.frames.specs.Frame.{frame-length};
@@ -8,8 +8,8 @@ use frames::Link;
 use frames::MOST_FRAMES;
 use frames::Settings;
 
-// Where the reading of a run file stands, between two records.
-pub enum Reader {
+// How far the reading of a run file is, between two records.
+pub enum Progress {
     // Before the setup.
     Start,
     // After the setup and so many frames.
@@ -56,37 +56,37 @@ fn fits(s: Settings) -> bool
 }
 
 // The number of the record that comes next, or of the one that was bad.
-fn next_record(r: Reader) -> u64
-    ensures { λ n. ⌜ n ≡ next-record r ⌝ }
+fn next_record(p: Progress) -> u64
+    ensures { λ n. ⌜ n ≡ next-record p ⌝ }
 {
-    match r {
-        Reader::Start => 0,
-        Reader::Running { frames: count, .. } => count as u64 + 1,
-        Reader::Ended { frames: count } => count as u64 + 2,
-        Reader::Bad { record } => record,
+    match p {
+        Progress::Start => 0,
+        Progress::Running { frames: count, .. } => count as u64 + 1,
+        Progress::Ended { frames: count } => count as u64 + 2,
+        Progress::Bad { record } => record,
     }
 }
 
-fn bad(r: Reader) -> Reader
-    ensures { λ a. ⌜ a ≡ bad r ⌝ }
+fn bad(p: Progress) -> Progress
+    ensures { λ a. ⌜ a ≡ bad p ⌝ }
 {
-    Reader::Bad {
-        record: next_record(r),
+    Progress::Bad {
+        record: next_record(p),
     }
 }
 
-// Whether a file can lead to this reader.
-fn reachable(r: Reader) -> bool
-    ensures { λ t. ⌜ t ≡ reachable r ⌝ }
+// Whether a file can lead to this progress.
+fn reachable(p: Progress) -> bool
+    ensures { λ t. ⌜ t ≡ reachable p ⌝ }
 {
-    match r {
-        Reader::Start => true,
-        Reader::Running {
+    match p {
+        Progress::Start => true,
+        Progress::Running {
             settings,
             frames: count,
         } => fits(settings) & ((settings.fill == 0) & (count <= MOST_FRAMES)),
-        Reader::Ended { frames: count } => count <= MOST_FRAMES,
-        Reader::Bad { record } => record <= MOST_FRAMES as u64 + 2,
+        Progress::Ended { frames: count } => count <= MOST_FRAMES,
+        Progress::Bad { record } => record <= MOST_FRAMES as u64 + 2,
     }
 }
 
@@ -98,15 +98,15 @@ fn frame_length(s: Settings) -> usize
 }
 
 // How many octets of body the next record has, by its kind; 0 where it is bad.
-pub fn body_length(r: Reader, kind: u8) -> usize
-    ensures { λ n. ⌜ n ≡ body-length r kind ⌝ }
+pub fn body_length(p: Progress, kind: u8) -> usize
+    ensures { λ n. ⌜ n ≡ body-length p kind ⌝ }
 {
-    if !reachable(r) {
+    if !reachable(p) {
         return 0;
     }
-    match r {
-        Reader::Start => if kind == SETUP { SETUP_LENGTH } else { 0 },
-        Reader::Running {
+    match p {
+        Progress::Start => if kind == SETUP { SETUP_LENGTH } else { 0 },
+        Progress::Running {
             settings,
             frames: count,
         } => {
@@ -116,74 +116,74 @@ pub fn body_length(r: Reader, kind: u8) -> usize
                 0
             }
         }
-        Reader::Ended { .. } => 0,
-        Reader::Bad { .. } => 0,
+        Progress::Ended { .. } => 0,
+        Progress::Bad { .. } => 0,
     }
 }
 
-fn take_setup(kind: u8, body: &[u8]) -> Reader
-    ensures { λ r. ⌜ r ≡ taken Reader.Start kind (now (body .entry)) ⌝ }
+fn take_setup(kind: u8, body: &[u8]) -> Progress
+    ensures { λ r. ⌜ r ≡ taken Progress.Start kind (now (body .entry)) ⌝ }
 {
     let settings = setup_of(body);
     if (kind == SETUP) & ((body.len() == SETUP_LENGTH) & fits(settings)) {
-        Reader::Running {
+        Progress::Running {
             settings,
             frames: 0,
         }
     } else {
-        bad(Reader::Start)
+        bad(Progress::Start)
     }
 }
 
 // A frame or the end, after so many frames.
-fn take_next(s: Settings, count: u32, kind: u8, body: &[u8]) -> Reader
-    requires { ⌜ reachable (Reader.Running s count) ≡ true ⌝ }
-    ensures { λ r. ⌜ r ≡ taken (Reader.Running s count) kind (now (body .entry)) ⌝ }
+fn take_next(s: Settings, count: u32, kind: u8, body: &[u8]) -> Progress
+    requires { ⌜ reachable (Progress.Running s count) ≡ true ⌝ }
+    ensures { λ r. ⌜ r ≡ taken (Progress.Running s count) kind (now (body .entry)) ⌝ }
 {
     if (kind == FRAME) & ((count < MOST_FRAMES) & frames::has_length(s, body.len())) {
-        return Reader::Running {
+        return Progress::Running {
             settings: s,
             frames: count + 1,
         };
     }
     if (kind == END) & (body.len() == 0) {
-        return Reader::Ended { frames: count };
+        return Progress::Ended { frames: count };
     }
-    bad(Reader::Running {
+    bad(Progress::Running {
         settings: s,
         frames: count,
     })
 }
 
-// The reader after a record of this kind and this body, which is shorter than its length where the input is cut.
-pub fn take(r: Reader, kind: u8, body: &[u8]) -> Reader
-    ensures { λ a. ⌜ a ≡ taken r kind (now (body .entry)) ⌝ }
+// The progress after a record of this kind and this body, which is shorter than its length where the input is cut.
+pub fn take(p: Progress, kind: u8, body: &[u8]) -> Progress
+    ensures { λ a. ⌜ a ≡ taken p kind (now (body .entry)) ⌝ }
 {
-    if !reachable(r) {
-        return bad(r);
+    if !reachable(p) {
+        return bad(p);
     }
-    match r {
-        Reader::Start => take_setup(kind, body),
-        Reader::Running {
+    match p {
+        Progress::Start => take_setup(kind, body),
+        Progress::Running {
             settings,
             frames: count,
         } => take_next(settings, count, kind, body),
-        Reader::Ended { .. } => bad(r),
-        Reader::Bad { .. } => bad(r),
+        Progress::Ended { .. } => bad(p),
+        Progress::Bad { .. } => bad(p),
     }
 }
 
-// The reader when the input has ended.
-pub fn close(r: Reader) -> Reader
-    ensures { λ a. ⌜ a ≡ closed r ⌝ }
+// The progress when the input has ended.
+pub fn close(p: Progress) -> Progress
+    ensures { λ a. ⌜ a ≡ closed p ⌝ }
 {
-    if !reachable(r) {
-        return bad(r);
+    if !reachable(p) {
+        return bad(p);
     }
-    match r {
-        Reader::Start => bad(r),
-        Reader::Running { .. } => bad(r),
-        Reader::Ended { .. } => r,
-        Reader::Bad { .. } => bad(r),
+    match p {
+        Progress::Start => bad(p),
+        Progress::Running { .. } => bad(p),
+        Progress::Ended { .. } => p,
+        Progress::Bad { .. } => bad(p),
     }
 }

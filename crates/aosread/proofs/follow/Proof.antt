@@ -12,12 +12,12 @@ use Rattle.aosread.proofs.follow.Statement.{statement}
 use Rattle.aosread.proofs.follow.Tie as tie
 
 abbrev Inv-loop : tie.InvT-loop
-Inv-loop s waiting buf₀ store₀ tried₀ out₀ unread₀ reader₀ run₀ buf store tried out unread reader run =
+Inv-loop s waiting buf₀ store₀ tried₀ out₀ unread₀ progress₀ run₀ buf store tried out unread progress run =
     (length buf ≡ length buf₀) × (length store ≡ length store₀) × (length tried ≡ length tried₀) × (length out ≡ length out₀)
     × Inside unread buf × Room (run .waiting) out
 
 abbrev μ-loop : tie.MeasureT-loop
-μ-loop s waiting buf₀ store₀ tried₀ out₀ unread₀ reader₀ run₀ buf store tried out unread reader run = left reader
+μ-loop s waiting buf₀ store₀ tried₀ out₀ unread₀ progress₀ run₀ buf store tried out unread progress run = left progress
 
 loop-holds : tie.Need-loop-holds Inv-loop μ-loop
 loop-holds c =
@@ -66,7 +66,7 @@ loop-less c =
     let at-if = at-told .before .before in
     let at-next = at-if .before .before .before .before in
     let x = at-next .next .result in
-    next-less (at-next .before .before .loop .reader) (x .reader) (x .ended) (x .kind) _ (at-next .next .ensures .reads) (at-if .if1 .left)
+    next-less (at-next .before .before .loop .progress) (x .progress) (x .ended) (x .kind) _ (at-next .next .ensures .reads) (at-if .if1 .left)
     (running-left _ _ _ (at-told .enum-told .given .1))
 
 loop-again : tie.Need-loop-again Inv-loop μ-loop
@@ -81,7 +81,7 @@ loop-less-2 c =
     let at-if = at-told .before .before in
     let at-next = at-if .before .before .before .before in
     let x = at-next .next .result in
-    next-less (at-next .before .before .loop .reader) (x .reader) (x .ended) (x .kind) _ (at-next .next .ensures .reads) (at-if .if1 .left)
+    next-less (at-next .before .before .loop .progress) (x .progress) (x .ended) (x .kind) _ (at-next .next .ensures .reads) (at-if .if1 .left)
     (ended-left _ _ (at-told .enum-told2 .given .1))
 
 loop-again-2 : tie.Need-loop-again-2 Inv-loop μ-loop

@@ -6,19 +6,19 @@ use mathlib.Core.Option.{Option, none, some}
 use Rattle.frames.specs.declared.Settings.{Settings}
 use Rattle.runfile.specs.RunFile.{reading, run-file}
 use Rattle.runfile.specs.Steps.{body-length, taken, closed}
-use Rattle.runfile.specs.declared.Reader.{Reader}
-use Rattle.runfile.specs.declared.Reader.the-variants.{Start, Running, Ended, Bad}
+use Rattle.runfile.specs.declared.Progress.{Progress}
+use Rattle.runfile.specs.declared.Progress.the-variants.{Start, Running, Ended, Bad}
 use Rattle.demands.specs.Numbers.Samples.{lent}
 
 -- the settings that a setup has
 abbrev pub set : ℕ → ℕ → ℕ → ℕ → Settings
 set spacecraft channel zone limit = record { link = record { spacecraft = spacecraft; channel = channel }; zone = zone; limit = limit; fill = 0 }
 
--- the setup of the sample run, and its reader after so many frames
+-- the setup of the sample run, and the progress of its reader after so many frames
 abbrev pub setup : List ℕ
 setup = 0x42 ∷ 0x03 ∷ 0x00 ∷ 0x0A ∷ 0x00 ∷ 0x04 ∷ 0x00 ∷ []
 
-abbrev pub running : ℕ → Reader
+abbrev pub running : ℕ → Progress
 running frames = Running (set 66 3 10 1024) frames
 
 -- a run of one frame
@@ -45,7 +45,7 @@ pub record Records : Type 0 where
   pub last-end : taken (running 16777216) 3 [] ∷ closed (Ended 16777216) ∷ [] ≡ Ended 16777216 ∷ Ended 16777216 ∷ []
   -- input that ends before a 3 is cut
   pub cut : map closed (Start ∷ running 4 ∷ Ended 4 ∷ Bad 3 ∷ []) ≡ Bad 0 ∷ Bad 5 ∷ Ended 4 ∷ Bad 3 ∷ []
-  -- a reader that is bad keeps its number, and takes no body
+  -- progress that is bad keeps its number, and takes no body
   pub stays : map (λ kind. taken (Bad 3) kind setup) (1 ∷ 2 ∷ 3 ∷ []) ≡ Bad 3 ∷ Bad 3 ∷ Bad 3 ∷ []
   pub no-bodies : map (body-length (Ended 4)) (1 ∷ 2 ∷ 3 ∷ []) ++ map (body-length (Bad 3)) (1 ∷ 2 ∷ 3 ∷ []) ≡ 0 ∷ 0 ∷ 0 ∷ 0 ∷ 0 ∷ 0 ∷ []
   -- a whole file, both ways, and the number of the record that is bad

@@ -1,4 +1,4 @@
--- `runfile::close` meets its contract: in each arm the reader is the arm's.
+-- `runfile::close` meets its contract: in each arm the progress is the arm's.
 -- Assumes nothing.
 use mathlib.Core.Path.{refl, sym, _∙_}
 use borrow.Author.Needs.{needs}

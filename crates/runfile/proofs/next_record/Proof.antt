@@ -1,4 +1,4 @@
--- `runfile::next_record` meets its contract: in each arm the reader is the arm's.
+-- `runfile::next_record` meets its contract: in each arm the progress is the arm's.
 -- Assumes nothing.
 use mathlib.Core.Path.{refl}
 use borrow.Author.Needs.{needs}
@@ -12,15 +12,15 @@ returns c = rw (c .enum-told .given .1) refl
 
 returns-2 : tie.Need-returns-2
 unfolding next-record
-returns-2 c = rw (c .before .r .given .1) refl
+returns-2 c = rw (c .before .p .given .1) refl
 
 returns-3 : tie.Need-returns-3
 unfolding next-record
-returns-3 c = rw (c .before .r2 .given .1) refl
+returns-3 c = rw (c .before .p2 .given .1) refl
 
 returns-4 : tie.Need-returns-4
 unfolding next-record
-returns-4 c = rw (c .before .r3 .given .1) refl
+returns-4 c = rw (c .before .p3 .given .1) refl
 
 pub next-record-spec : {M : Type 1} → statement M
 next-record-spec =

@@ -12,15 +12,15 @@ returns c = rw (c .enum-told .given .1) refl
 
 returns-2 : tie.Need-returns-2
 unfolding reachable
-returns-2 c = rw (c .before .before .before .r .given .1, c .before .fits2 .ensures) refl
+returns-2 c = rw (c .before .before .before .p .given .1, c .before .fits2 .ensures) refl
 
 returns-3 : tie.Need-returns-3
 unfolding reachable
-returns-3 c = rw (c .before .r2 .given .1) refl
+returns-3 c = rw (c .before .p2 .given .1) refl
 
 returns-4 : tie.Need-returns-4
 unfolding reachable
-returns-4 c = rw (c .before .r3 .given .1) refl
+returns-4 c = rw (c .before .p3 .given .1) refl
 
 pub reachable-spec : {M : Type 1} → statement M
 reachable-spec =

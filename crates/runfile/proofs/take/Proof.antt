@@ -1,4 +1,4 @@
--- `runfile::take` meets its contract: in each arm the reader is the arm's.
+-- `runfile::take` meets its contract: in each arm the progress is the arm's.
 -- Assumes nothing.
 use mathlib.Core.Path.{sym, _∙_}
 use borrow.Author.Needs.{needs}
@@ -16,13 +16,13 @@ returns c =
 take-next-requires : tie.Need-take-next-requires
 take-next-requires c κs =
     let at-if = c .before .before .before in
-    rw (c .before .r .given .1) at (sym (at-if .before .reachable .ensures) ∙ not-false _ (at-if .if1 .left))
+    rw (c .before .p .given .1) at (sym (at-if .before .reachable .ensures) ∙ not-false _ (at-if .if1 .left))
 
 returns-2 : tie.Need-returns-2
 returns-2 c = rw (c .before .enum-told .given .1) (c .take-setup .ensures)
 
 returns-3 : tie.Need-returns-3
-returns-3 c = rw (c .before .before .r .given .1) (c .take-next .ensures)
+returns-3 c = rw (c .before .before .p .given .1) (c .take-next .ensures)
 
 returns-4 : tie.Need-returns-4
 unfolding taken
