@@ -18,7 +18,7 @@ use Rattle.packets.proofs.Looks.{look-encapsulation, half-read, counted
 
 -- ---- the fields of the first octets, each by the law of fields
 
-module _ (protocol lol : ℕ) where
+module _ (protocol code : ℕ) where
   abbrev versioned : ℕ
   versioned = placed 0 5 3 7
 
@@ -31,30 +31,30 @@ module _ (protocol lol : ℕ) where
   addressed-lt : addressed < 2 ^ 64
   addressed-lt = placed-lt versioned 2 3 protocol versioned-lt (omega arith)
 
-  pub first-octet-lt : first-octet protocol lol < 256
+  pub first-octet-lt : first-octet protocol code < 256
   unfolding first-octet
   first-octet-lt =
-      placed-within addressed 0 2 lol addressed-lt (omega arith) 8
+      placed-within addressed 0 2 code addressed-lt (omega arith) 8
       (placed-within versioned 2 3 protocol versioned-lt (omega arith) 8
       (placed-within 0 5 3 7 (omega arith) (omega arith) 8 (omega arith) (omega arith)) (omega arith)) (omega arith)
 
-  pub first-version : packet-version (first-octet protocol lol) ≡ 7
+  pub first-version : packet-version (first-octet protocol code) ≡ 7
   unfolding first-octet
   first-version =
-      placed-above addressed 0 2 lol addressed-lt (omega arith) 5 3 (omega arith)
+      placed-above addressed 0 2 code addressed-lt (omega arith) 5 3 (omega arith)
       ∙ placed-above versioned 2 3 protocol versioned-lt (omega arith) 5 3 (omega arith)
       ∙ placed-read 0 5 3 7 (omega arith) (omega arith)
 
-  pub first-protocol : protocol ≤ 7 → protocol-of (first-octet protocol lol) ≡ protocol
+  pub first-protocol : protocol ≤ 7 → protocol-of (first-octet protocol code) ≡ protocol
   unfolding first-octet
   first-protocol h =
-      placed-above addressed 0 2 lol addressed-lt (omega arith) 2 3 (omega arith)
+      placed-above addressed 0 2 code addressed-lt (omega arith) 2 3 (omega arith)
       ∙ placed-read versioned 2 3 protocol versioned-lt (omega arith)
       ∙ mod-eq-of-lt (omega arith)
 
-  pub first-lol : lol ≤ 3 → length-of-length (first-octet protocol lol) ≡ lol
+  pub first-code : code ≤ 3 → length-of-length (first-octet protocol code) ≡ code
   unfolding first-octet
-  first-lol h = placed-read addressed 0 2 lol addressed-lt (omega arith) ∙ mod-eq-of-lt (omega arith)
+  first-code h = placed-read addressed 0 2 code addressed-lt (omega arith) ∙ mod-eq-of-lt (omega arith)
 
 pub second-octet-lt : (extension : ℕ) → second-octet extension < 256
 unfolding second-octet
@@ -66,87 +66,87 @@ second-extension extension h = placed-read 0 0 4 extension (omega arith) (omega 
 
 -- ---- the header over a buffer
 
-module _ (protocol extension lol total : ℕ) where
+module _ (protocol extension code total : ℕ) where
   begun : List ℕ
-  begun = take (start lol) (opening protocol extension lol)
+  begun = take (start code) (opening protocol extension code)
 
-  length-begun : length begun ≡ start lol
+  length-begun : length begun ≡ start code
   unfolding begun
-  length-begun = length-take-le (start lol) (opening protocol extension lol) (omega (arith, header-most lol))
+  length-begun = length-take-le (start code) (opening protocol extension code) (omega (arith, header-most code))
 
-  pub length-front : length (front protocol extension lol total) ≡ header-length lol
+  pub length-front : length (front protocol extension code total) ≡ header-length code
   unfolding front begun
-  length-front = length-append begun (octets (half lol) total) ∙ omega (arith, length-begun, length-octets (half lol) total)
+  length-front = length-append begun (octets (half code) total) ∙ omega (arith, length-begun, length-octets (half code) total)
 
   -- what stands before its length field, and then that
-  pub front-written : (d : List ℕ) (at : ℕ) → at + header-length lol ≤ length d
-      → laid (laid-part d at 0 (start lol) (opening protocol extension lol)) (at + start lol) (octets (half lol) total)
-      ≡ over d at (front protocol extension lol total)
+  pub front-written : (d : List ℕ) (at : ℕ) → at + header-length code ≤ length d
+      → laid (laid-part d at 0 (start code) (opening protocol extension code)) (at + start code) (octets (half code) total)
+      ≡ over d at (front protocol extension code total)
   unfolding front begun
   front-written d at h =
-      let n : start lol - 0 ≡ start lol = omega arith in
-      let first : laid-part d at 0 (start lol) (opening protocol extension lol) ≡ over d at begun =
-      part-within d at 0 (start lol) (opening protocol extension lol) (omega arith) (omega (arith, header-most lol)) (omega arith)
-      ∙ ap (λ (k : ℕ). over d at (take k (opening protocol extension lol))) n in
+      let n : start code - 0 ≡ start code = omega arith in
+      let first : laid-part d at 0 (start code) (opening protocol extension code) ≡ over d at begun =
+      part-within d at 0 (start code) (opening protocol extension code) (omega arith) (omega (arith, header-most code)) (omega arith)
+      ∙ ap (λ (k : ℕ). over d at (take k (opening protocol extension code))) n in
       let room : length (over d at begun) ≡ length d = length-over d at begun (omega (arith, length-begun)) in
-      ap (λ (b : List ℕ). laid b (at + start lol) (octets (half lol) total)) first
-      ∙ laid-within (over d at begun) (at + start lol) (octets (half lol) total) (omega (arith, room, length-octets (half lol) total))
-      ∙ ap (λ (k : ℕ). over (over d at begun) (at + k) (octets (half lol) total)) (sym length-begun)
-      ∙ over-over d at begun (octets (half lol) total) (omega (arith, length-begun))
+      ap (λ (b : List ℕ). laid b (at + start code) (octets (half code) total)) first
+      ∙ laid-within (over d at begun) (at + start code) (octets (half code) total) (omega (arith, room, length-octets (half code) total))
+      ∙ ap (λ (k : ℕ). over (over d at begun) (at + k) (octets (half code) total)) (sym length-begun)
+      ∙ over-over d at begun (octets (half code) total) (omega (arith, length-begun))
 
 -- ---- the header read back, whatever stands behind it
 
-module _ (protocol extension lol total : ℕ) (rest : List ℕ) where
+module _ (protocol extension code total : ℕ) (rest : List ℕ) where
   abbrev packet : List ℕ
-  packet = front protocol extension lol total ++ rest
+  packet = front protocol extension code total ++ rest
 
-  opened : packet ≡ begun protocol extension lol total ++ (octets (half lol) total ++ rest)
+  opened : packet ≡ begun protocol extension code total ++ (octets (half code) total ++ rest)
   unfolding front begun
-  opened = append-assoc (begun protocol extension lol total) (octets (half lol) total) rest
+  opened = append-assoc (begun protocol extension code total) (octets (half code) total) rest
 
   -- the octets before the length field
-  at-start : (i : ℕ) → i < start lol → getD packet i 0 ≡ getD (opening protocol extension lol) i 0
+  at-start : (i : ℕ) → i < start code → getD packet i 0 ≡ getD (opening protocol extension code) i 0
   unfolding begun
   at-start i h =
       ap (λ (os : List ℕ). getD os i 0) opened
-      ∙ List·getD-append (begun protocol extension lol total) _ 0 i (omega (arith, length-begun protocol extension lol total))
-      ∙ getD-take (start lol) (opening protocol extension lol) i 0 h
+      ∙ List·getD-append (begun protocol extension code total) _ 0 i (omega (arith, length-begun protocol extension code total))
+      ∙ getD-take (start code) (opening protocol extension code) i 0 h
 
-  pub front-first : getD packet 0 0 ≡ first-octet protocol lol
-  front-first = at-start 0 (omega (arith, header-positive lol))
+  pub front-first : getD packet 0 0 ≡ first-octet protocol code
+  front-first = at-start 0 (omega (arith, header-positive code))
 
-  pub front-second : 2 ≤ lol → getD packet 1 0 ≡ second-octet extension
-  front-second h = at-start 1 (omega (arith, header-extended lol h))
+  pub front-second : 2 ≤ code → getD packet 1 0 ≡ second-octet extension
+  front-second h = at-start 1 (omega (arith, header-extended code h))
 
-  pub front-longer : header-length lol ≤ length packet
-  front-longer = omega (arith, length-append (front protocol extension lol total) rest, length-front protocol extension lol total)
+  pub front-longer : header-length code ≤ length packet
+  front-longer = omega (arith, length-append (front protocol extension code total) rest, length-front protocol extension code total)
 
   -- the length field
-  pub front-total : 1 ≤ lol → total < 256 ^ half lol → number-at (half lol) (half lol) packet ≡ total
+  pub front-total : 1 ≤ code → total < 256 ^ half code → number-at (half code) (half code) packet ≡ total
   front-total h k =
-      let same : half lol + half lol ≡ header-length lol = two-halves lol h in
-      let behind : List ℕ = octets (half lol) total ++ rest in
-      number-within (half lol) (half lol) packet (omega (arith, front-longer))
-      ∙ ap (λ (os : List ℕ). number (take (half lol) (drop (half lol) os))) opened
-      ∙ ap (λ (os : List ℕ). number (take (half lol) os))
-      (drop-at (begun protocol extension lol total) behind (half lol) (omega (arith, length-begun protocol extension lol total)))
-      ∙ ap number (take-at (octets (half lol) total) rest (half lol) (length-octets (half lol) total))
-      ∙ number-octets (half lol) total k
+      let same : half code + half code ≡ header-length code = two-halves code h in
+      let behind : List ℕ = octets (half code) total ++ rest in
+      number-within (half code) (half code) packet (omega (arith, front-longer))
+      ∙ ap (λ (os : List ℕ). number (take (half code) (drop (half code) os))) opened
+      ∙ ap (λ (os : List ℕ). number (take (half code) os))
+      (drop-at (begun protocol extension code total) behind (half code) (omega (arith, length-begun protocol extension code total)))
+      ∙ ap number (take-at (octets (half code) total) rest (half code) (length-octets (half code) total))
+      ∙ number-octets (half code) total k
 
   -- so the header says what was put into it
-  pub front-look : (limit : ℕ) → 1 ≤ lol → lol ≤ 3 → header-length lol ≤ total → total ≤ limit → total < 256 ^ half lol
+  pub front-look : (limit : ℕ) → 1 ≤ code → code ≤ 3 → header-length code ≤ total → total ≤ limit → total < 256 ^ half code
       → look limit packet ≡ whole total
   front-look limit least most h k m =
-      let longer : header-length lol ≤ length packet = front-longer in
-      let some : length packet ≡ 0 → ⊥ = λ z. let p = header-positive lol in absurd (omega arith) in
-      let version : packet-version (getD packet 0 0) ≡ 7 = ap packet-version front-first ∙ first-version protocol lol in
-      let length-field : length-of-length (getD packet 0 0) ≡ lol = ap length-of-length front-first ∙ first-lol protocol lol most in
+      let longer : header-length code ≤ length packet = front-longer in
+      let some : length packet ≡ 0 → ⊥ = λ z. let p = header-positive code in absurd (omega arith) in
+      let version : packet-version (getD packet 0 0) ≡ 7 = ap packet-version front-first ∙ first-version protocol code in
+      let length-field : length-of-length (getD packet 0 0) ≡ code = ap length-of-length front-first ∙ first-code protocol code most in
       let not-none : length-of-length (getD packet 0 0) ≡ 0 → ⊥ = λ z. absurd (omega arith) in
       look-encapsulation limit packet some version
       ∙ half-read limit packet (protocol-of (getD packet 0 0)) (length-of-length (getD packet 0 0)) not-none
       ∙ ap (λ (n : ℕ). counted limit (length packet) (header-length n) (number-at (half n) (half n) packet)) length-field
-      ∙ ap (counted limit (length packet) (header-length lol)) (front-total least m)
-      ∙ counted-whole limit (length packet) (header-length lol) total longer h k
+      ∙ ap (counted limit (length packet) (header-length code)) (front-total least m)
+      ∙ counted-whole limit (length packet) (header-length code) total longer h k
 
 -- the reserved field of the longest header is 0
 pub front-reserved : (protocol extension total : ℕ) (rest : List ℕ) → number-at 2 2 (front protocol extension 3 total ++ rest) ≡ 0

@@ -41,7 +41,7 @@ module _ (limit n : ℕ) where
       go true e = omega (arith, ltb-true n size e)
       go false e = sized-bounded (ltb total size) (ltb limit total) size total refl refl h
 
-encapsulation-bounded : (limit protocol lol : ℕ) (os : List ℕ) → 1 ≤ limit → Bounded limit (length os) (encapsulation limit protocol lol os)
+encapsulation-bounded : (limit protocol code : ℕ) (os : List ℕ) → 1 ≤ limit → Bounded limit (length os) (encapsulation limit protocol code os)
 unfolding encapsulation
 encapsulation-bounded limit protocol zero os h = go (eqb protocol 0)
   where
@@ -51,12 +51,12 @@ encapsulation-bounded limit protocol zero os h = go (eqb protocol 0)
 encapsulation-bounded limit protocol (suc n) os h =
     counted-bounded limit (length os) (header-length (suc n)) _ (header-positive (suc n)) (header-most (suc n))
 
-kind-bounded : (zeroth seventh : Bool) (limit protocol lol : ℕ) (os : List ℕ) → 1 ≤ limit
-    → Bounded limit (length os) (kind zeroth seventh limit protocol lol os)
+kind-bounded : (zeroth seventh : Bool) (limit protocol code : ℕ) (os : List ℕ) → 1 ≤ limit
+    → Bounded limit (length os) (kind zeroth seventh limit protocol code os)
 unfolding kind space
-kind-bounded true seventh limit protocol lol os h = counted-bounded limit (length os) 6 _ (omega arith) (omega arith)
-kind-bounded false true limit protocol lol os h = encapsulation-bounded limit protocol lol os h
-kind-bounded false false limit protocol lol os h = tt
+kind-bounded true seventh limit protocol code os h = counted-bounded limit (length os) 6 _ (omega arith) (omega arith)
+kind-bounded false true limit protocol code os h = encapsulation-bounded limit protocol code os h
+kind-bounded false false limit protocol code os h = tt
 
 pub look-bounded : (limit : ℕ) (os : List ℕ) → 1 ≤ limit → Bounded limit (length os) (look limit os)
 unfolding look kind
@@ -87,7 +87,7 @@ unfolding counted
 counted-least limit len size total e =
     picked (ltb len size) more (sized limit size total) e (λ t q. apart (cc)) (λ t q. sized-least limit size total q)
 
-encapsulation-least : (limit protocol lol : ℕ) (os : List ℕ) {l : ℕ} → encapsulation limit protocol lol os ≡ whole l → header-length lol ≤ l
+encapsulation-least : (limit protocol code : ℕ) (os : List ℕ) {l : ℕ} → encapsulation limit protocol code os ≡ whole l → header-length code ≤ l
 unfolding encapsulation header-length
 encapsulation-least limit protocol zero os {l} e =
     picked (eqb protocol 0) (whole 1) damaged e (λ t q. let one : 1 ≡ l = cc in omega arith) (λ t q. apart (cc))

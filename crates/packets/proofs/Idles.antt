@@ -13,7 +13,7 @@ use Rattle.octets.proofs.Choices.{split, none-holds, or-false}
 use Rattle.octets.proofs.Written.{laid-within, length-over, over-over}
 use Rattle.packets.specs.Packet.{whole, look, encapsulation, WellFormed, packet-version, protocol-of, is-idle, header-length}
 use Rattle.packets.specs.Front.{first-octet, second-octet, front}
-use Rattle.packets.specs.Idle.{idle-header, idle-packet, idle-lol, idle-packet-rows}
+use Rattle.packets.specs.Idle.{idle-header, idle-packet, idle-length-of-length, idle-packet-rows}
 use Rattle.packets.proofs.Fronts.{first-version, first-protocol, length-front, front-first, front-look}
 
 -- ---- the header, as the header of an encapsulation packet of protocol 0
@@ -24,8 +24,8 @@ data Chosen (r : ℕ) : ℕ → List ℕ → Type 0 where
   two : 2 ≤ r → r ≤ 255 → Chosen r 1 (0xE1 ∷ r ∷ [])
   four : 255 < r → Chosen r 2 (0xE2 ∷ 0 ∷ octets 2 r)
 
-chosen : (r : ℕ) → 1 ≤ r → Chosen r (idle-lol r) (idle-header r)
-unfolding idle-lol idle-header
+chosen : (r : ℕ) → 1 ≤ r → Chosen r (idle-length-of-length r) (idle-header r)
+unfolding idle-length-of-length idle-header
 chosen r h = go (eqb r 1) (leb r 255) refl refl
   where
     go : (a b : Bool) → eqb r 1 ≡ a → leb r 255 ≡ b → Chosen r (pick a 0 (pick b 1 2)) (pick a (0xE0 ∷ []) (pick b (0xE1 ∷ r ∷ []) (0xE2 ∷ 0 ∷ octets 2 r)))
@@ -33,50 +33,50 @@ chosen r h = go (eqb r 1) (leb r 255) refl refl
     go false true x y = two (omega (arith, eqb-false r 1 x)) (leb-true r 255 y)
     go false false x y = four (leb-false r 255 y)
 
-idle-front : (r : ℕ) → 1 ≤ r → idle-header r ≡ front 0 0 (idle-lol r) r
+idle-front : (r : ℕ) → 1 ≤ r → idle-header r ≡ front 0 0 (idle-length-of-length r) r
 unfolding front header-length first-octet second-octet placed join octets
 idle-front r h = go (chosen r h)
   where
-    go : {lol : ℕ} {os : List ℕ} → Chosen r lol os → os ≡ front 0 0 lol r
+    go : {code : ℕ} {os : List ℕ} → Chosen r code os → os ≡ front 0 0 code r
     go (one e) = refl
     go (two k m) = let e : r / 1 % 256 ≡ r = omega arith in rw e refl
     go (four k) = refl
 
 -- it is no longer than the packet
-pub idle-size : (r : ℕ) → 1 ≤ r → header-length (idle-lol r) ≤ r
+pub idle-size : (r : ℕ) → 1 ≤ r → header-length (idle-length-of-length r) ≤ r
 unfolding header-length
 idle-size r h = go (chosen r h)
   where
-    go : {lol : ℕ} {os : List ℕ} → Chosen r lol os → header-length lol ≤ r
+    go : {code : ℕ} {os : List ℕ} → Chosen r code os → header-length code ≤ r
     go (one e) = omega arith
     go (two k m) = omega arith
     go (four k) = omega arith
 
 module _ (fill r : ℕ) (some : 1 ≤ r) where
-  abbrev lol : ℕ
-  lol = idle-lol r
+  abbrev code : ℕ
+  code = idle-length-of-length r
 
   abbrev rest : List ℕ
-  rest = replicate (r - header-length lol) fill
+  rest = replicate (r - header-length code) fill
 
-  packet-front : idle-packet fill r ≡ front 0 0 lol r ++ rest
+  packet-front : idle-packet fill r ≡ front 0 0 code r ++ rest
   unfolding idle-packet
   packet-front =
-      rw (idle-front r some, length-front 0 0 lol r) refl
+      rw (idle-front r some, length-front 0 0 code r) refl
 
   pub idle-length : length (idle-packet fill r) ≡ r
   idle-length =
       ap length packet-front
-      ∙ length-append (front 0 0 lol r) rest
-      ∙ omega (arith, length-front 0 0 lol r, length-replicate (r - header-length lol) fill, idle-size r some)
+      ∙ length-append (front 0 0 code r) rest
+      ∙ omega (arith, length-front 0 0 code r, length-replicate (r - header-length code) fill, idle-size r some)
 
   pub idle-idle : is-idle (idle-packet fill r) ≡ true
   unfolding is-idle
   idle-idle =
-      let first : getD (idle-packet fill r) 0 0 ≡ first-octet 0 lol =
-      ap (λ (os : List ℕ). getD os 0 0) packet-front ∙ front-first 0 0 lol r rest in
-      let version : packet-version (getD (idle-packet fill r) 0 0) ≡ 7 = ap packet-version first ∙ first-version 0 lol in
-      let protocol : protocol-of (getD (idle-packet fill r) 0 0) ≡ 0 = ap protocol-of first ∙ first-protocol 0 lol (omega arith) in
+      let first : getD (idle-packet fill r) 0 0 ≡ first-octet 0 code =
+      ap (λ (os : List ℕ). getD os 0 0) packet-front ∙ front-first 0 0 code r rest in
+      let version : packet-version (getD (idle-packet fill r) 0 0) ≡ 7 = ap packet-version first ∙ first-version 0 code in
+      let protocol : protocol-of (getD (idle-packet fill r) 0 0) ≡ 0 = ap protocol-of first ∙ first-protocol 0 code (omega arith) in
       rw (version, protocol) refl
 
   pub idle-formed : (limit : ℕ) → r ≤ limit → r < 65536 → WellFormed limit (idle-packet fill r)
@@ -109,13 +109,13 @@ idle-admits d at r some most roomy =
 
 -- its header, and then the fill
 pub idle-written : (d : List ℕ) (at fill r : ℕ) → 1 ≤ r → at + r ≤ length d
-    → laid (over d at (front 0 0 (idle-lol r) r)) (at + header-length (idle-lol r)) (replicate (r - header-length (idle-lol r)) fill)
+    → laid (over d at (front 0 0 (idle-length-of-length r) r)) (at + header-length (idle-length-of-length r)) (replicate (r - header-length (idle-length-of-length r)) fill)
     ≡ over d at (idle-packet fill r)
 idle-written d at fill r some h =
-    let n : ℕ = header-length (idle-lol r) in
-    let header : List ℕ = front 0 0 (idle-lol r) r in
+    let n : ℕ = header-length (idle-length-of-length r) in
+    let header : List ℕ = front 0 0 (idle-length-of-length r) r in
     let fills : List ℕ = replicate (r - n) fill in
-    let long : length header ≡ n = length-front 0 0 (idle-lol r) r in
+    let long : length header ≡ n = length-front 0 0 (idle-length-of-length r) r in
     let short : n ≤ r = idle-size r some in
     let room : length (over d at header) ≡ length d = length-over d at header (omega arith) in
     laid-within (over d at header) (at + n) fills (omega (arith, length-replicate (r - n) fill))

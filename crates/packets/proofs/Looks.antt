@@ -39,8 +39,8 @@ module _ (limit : ℕ) (os : List ℕ) where
     unfolding encapsulation
     none-damaged h = simp (ne-eqb _ _ h)
 
-    pub half-read : (lol : ℕ) → (lol ≡ 0 → ⊥)
-        → encapsulation limit protocol lol os ≡ counted limit (length os) (header-length lol) (number-at (header-length lol / 2) (header-length lol / 2) os)
+    pub half-read : (code : ℕ) → (code ≡ 0 → ⊥)
+        → encapsulation limit protocol code os ≡ counted limit (length os) (header-length code) (number-at (header-length code / 2) (header-length code / 2) os)
     unfolding encapsulation part
     half-read zero h = absurd (h refl)
     half-read (suc n) h =

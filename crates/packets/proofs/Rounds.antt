@@ -14,10 +14,10 @@ use Rattle.octets.specs.Basics.{pick, and, or, number-at, part-of, over, first}
 use Rattle.octets.proofs.Choices.{split, and-true, or-true}
 use Rattle.packets.specs.Packet.{limit-in-range, WellFormed, look, whole, packet-version, protocol-of, length-of-length, header-length}
 use Rattle.packets.specs.Front.{first-octet, front}
-use Rattle.packets.specs.Wrap.{lol-for, wrapped-total, wrapped, wrap-in-range, wrap-rows, Suits, its-lol, extension-of, reserved-of, unwrap-rows, unwrapping, RoundTrip}
+use Rattle.packets.specs.Wrap.{length-of-length-for, wrapped-total, wrapped, wrap-in-range, wrap-rows, Suits, its-length-of-length, extension-of, reserved-of, unwrap-rows, unwrapping, RoundTrip}
 use Rattle.packets.proofs.Sizes.{header-most}
 use Rattle.packets.proofs.Readings.{formed-test}
-use Rattle.packets.proofs.Fronts.{first-version, first-protocol, first-lol, second-extension, length-front, front-first, front-second, front-look, front-reserved}
+use Rattle.packets.proofs.Fronts.{first-version, first-protocol, first-code, second-extension, length-front, front-first, front-second, front-look, front-reserved}
 use Rattle.packets.proofs.Wraps.{Admitted, admitted, wrapping-done, unwrapping-done}
 
 -- ---- the smallest header
@@ -28,8 +28,8 @@ data Chosen (protocol n : ℕ) : ℕ → Type 0 where
   four : n + 4 ≤ 65535 → (n + 2 ≤ 255 → protocol ≡ 6) → Chosen protocol n 2
   eight : 65535 < n + 4 → Chosen protocol n 3
 
-chosen : (protocol n : ℕ) → Chosen protocol n (lol-for protocol n)
-unfolding lol-for
+chosen : (protocol n : ℕ) → Chosen protocol n (length-of-length-for protocol n)
+unfolding length-of-length-for
 chosen protocol n = go (leb (n + 2) 255) (eqb protocol 6) (leb (n + 4) 65535) refl refl refl
   where
     go : (a b c : Bool) → leb (n + 2) 255 ≡ a → eqb protocol 6 ≡ b → leb (n + 4) 65535 ≡ c → Chosen protocol n (pick (and a (not b)) 1 (pick c 2 3))
@@ -40,21 +40,21 @@ chosen protocol n = go (leb (n + 2) 255) (eqb protocol 6) (leb (n + 4) 65535) re
     go false b false x y z = eight (leb-false _ _ z)
 
 -- it suits the unit
-pub lol-suits : (protocol n : ℕ) → n + 8 < 256 ^ 4 → Suits protocol n (lol-for protocol n)
+pub code-suits : (protocol n : ℕ) → n + 8 < 256 ^ 4 → Suits protocol n (length-of-length-for protocol n)
 unfolding header-length
-lol-suits protocol n h = go (chosen protocol n)
+code-suits protocol n h = go (chosen protocol n)
   where
-    go : {lol : ℕ} → Chosen protocol n lol → Suits protocol n lol
+    go : {code : ℕ} → Chosen protocol n code → Suits protocol n code
     go (two k other) = record { least = omega arith; most = omega arith; stated = omega arith; extended = λ e. absurd (other e) }
     go (four k six) = record { least = omega arith; most = omega arith; stated = omega arith; extended = λ e. omega arith }
     go (eight k) = record { least = omega arith; most = omega arith; stated = omega arith; extended = λ e. omega arith }
 
 -- and no smaller one does
-pub lol-smallest : (protocol n lol : ℕ) → Suits protocol n lol → header-length (lol-for protocol n) ≤ header-length lol
+pub code-smallest : (protocol n code : ℕ) → Suits protocol n code → header-length (length-of-length-for protocol n) ≤ header-length code
 unfolding header-length
-lol-smallest protocol n lol s = go (chosen protocol n) lol s
+code-smallest protocol n code s = go (chosen protocol n) code s
   where
-    go : {k : ℕ} → Chosen protocol n k → (lol : ℕ) → Suits protocol n lol → header-length k ≤ header-length lol
+    go : {k : ℕ} → Chosen protocol n k → (code : ℕ) → Suits protocol n code → header-length k ≤ header-length code
     go c zero s = absurd (omega arith)
     go (two k other) (suc zero) s = omega arith
     go (two k other) (suc (suc zero)) s = omega arith
@@ -97,8 +97,8 @@ fair false false e = sym e
 
 module _ (limit protocol extension : ℕ) (unit : List ℕ) (s : Settings limit protocol extension)
     (within : wrapped-total protocol (length unit) ≤ limit) where
-  abbrev lol : ℕ
-  lol = lol-for protocol (length unit)
+  abbrev code : ℕ
+  code = length-of-length-for protocol (length unit)
 
   abbrev total : ℕ
   total = wrapped-total protocol (length unit)
@@ -106,63 +106,63 @@ module _ (limit protocol extension : ℕ) (unit : List ℕ) (s : Settings limit 
   packet : List ℕ
   packet = wrapped protocol extension unit
 
-  suits : Suits protocol (length unit) lol
+  suits : Suits protocol (length unit) code
   unfolding wrapped-total
-  suits = lol-suits protocol (length unit) (omega (arith, header-most lol))
+  suits = code-suits protocol (length unit) (omega (arith, header-most code))
 
   says : look limit packet ≡ whole total
   unfolding packet wrapped wrapped-total
-  says = front-look protocol extension lol total unit limit (suits .least) (suits .most) (omega arith) within (suits .stated)
+  says = front-look protocol extension code total unit limit (suits .least) (suits .most) (omega arith) within (suits .stated)
 
   packet-length : length packet ≡ total
   unfolding packet wrapped wrapped-total
   packet-length =
-      length-append (front protocol extension lol total) unit ∙ omega (arith, length-front protocol extension lol total)
+      length-append (front protocol extension code total) unit ∙ omega (arith, length-front protocol extension code total)
 
   packet-formed : WellFormed limit packet
   packet-formed = says ∙ ap whole (sym packet-length)
 
-  its-first : getD packet 0 0 ≡ first-octet protocol lol
+  its-first : getD packet 0 0 ≡ first-octet protocol code
   unfolding packet wrapped
-  its-first = front-first protocol extension lol total unit
+  its-first = front-first protocol extension code total unit
 
   its-protocol : protocol-of (getD packet 0 0) ≡ protocol
-  its-protocol = ap protocol-of its-first ∙ first-protocol protocol lol (s .most-protocol)
+  its-protocol = ap protocol-of its-first ∙ first-protocol protocol code (s .most-protocol)
 
-  its-length : its-lol packet ≡ lol
-  its-length = ap length-of-length its-first ∙ first-lol protocol lol (suits .most)
+  its-length : its-length-of-length packet ≡ code
+  its-length = ap length-of-length its-first ∙ first-code protocol code (suits .most)
 
   its-extension : extension-of packet ≡ extension
   unfolding extension-of packet wrapped
-  its-extension = split 2 lol with-one without
+  its-extension = split 2 code with-one without
     where
-      with-one : 2 ≤ lol → extension-of packet ≡ extension
+      with-one : 2 ≤ code → extension-of packet ≡ extension
       with-one h =
-          rw (its-length, le-leb 2 lol h, front-second protocol extension lol total unit h) (second-extension extension (s .most-extension))
+          rw (its-length, le-leb 2 code h, front-second protocol extension code total unit h) (second-extension extension (s .most-extension))
 
-      without : lol < 2 → extension-of packet ≡ extension
+      without : code < 2 → extension-of packet ≡ extension
       without h =
-          rw (its-length, lt-leb 2 lol h)
+          rw (its-length, lt-leb 2 code h)
           (⊎-elim (λ z. sym (eqb-true extension 0 z)) (λ e. absurd (let k = suits .extended (eqb-true protocol 6 e) in omega arith))
           (or-true (eqb extension 0) (eqb protocol 6) (s .used)))
 
   its-reserved : reserved-of packet ≡ 0
   unfolding reserved-of packet wrapped
-  its-reserved = split 3 lol longest shorter
+  its-reserved = split 3 code longest shorter
     where
-      longest : 3 ≤ lol → reserved-of packet ≡ 0
+      longest : 3 ≤ code → reserved-of packet ≡ 0
       longest h =
-          let three : lol ≡ 3 = omega (arith, suits .most) in
-          rw (its-length, le-leb 3 lol h)
+          let three : code ≡ 3 = omega (arith, suits .most) in
+          rw (its-length, le-leb 3 code h)
           (subst (λ (k : ℕ). number-at 2 2 (front protocol extension k total ++ unit) ≡ 0) (sym three) (front-reserved protocol extension total unit))
 
-      shorter : lol < 3 → reserved-of packet ≡ 0
-      shorter h = rw (its-length, lt-leb 3 lol h) refl
+      shorter : code < 3 → reserved-of packet ≡ 0
+      shorter h = rw (its-length, lt-leb 3 code h) refl
 
   no-row : first (unwrap-rows limit packet) ≡ 0
   unfolding unwrap-rows first
   no-row =
-      let version : packet-version (getD packet 0 0) ≡ 7 = ap packet-version its-first ∙ first-version protocol lol in
+      let version : packet-version (getD packet 0 0) ≡ 7 = ap packet-version its-first ∙ first-version protocol code in
       rw (
         s .limited,
         formed-test limit packet packet-formed,
@@ -175,18 +175,18 @@ module _ (limit protocol extension : ℕ) (unit : List ℕ) (s : Settings limit 
       refl
 
   packet-unwrapped : unwrapping limit packet
-      ≡ record { accepted = true; refusal = 0; protocol = protocol; extension = extension; start = header-length lol; size = length unit }
+      ≡ record { accepted = true; refusal = 0; protocol = protocol; extension = extension; start = header-length code; size = length unit }
   unfolding wrapped-total
   packet-unwrapped =
-      let size : length packet - header-length lol ≡ length unit = omega (arith, packet-length) in
+      let size : length packet - header-length code ≡ length unit = omega (arith, packet-length) in
       unwrapping-done limit packet no-row ∙ rw (its-protocol, its-extension, its-length, size) refl
 
-  packet-unit : part-of packet (header-length lol) (length unit) ≡ unit
+  packet-unit : part-of packet (header-length code) (length unit) ≡ unit
   unfolding part-of packet wrapped wrapped-total
   packet-unit =
       rw (
-        le-leb (header-length lol + length unit) (length packet) (omega (arith, packet-length)),
-        drop-at (front protocol extension lol total) unit (header-length lol) (length-front protocol extension lol total),
+        le-leb (header-length code + length unit) (length packet) (omega (arith, packet-length)),
+        drop-at (front protocol extension code total) unit (header-length code) (length-front protocol extension code total),
         take-length unit,
       )
       refl
@@ -207,7 +207,7 @@ round-trip limit protocol extension unit output e =
       written = rw (wrapping-done limit protocol extension unit output e, n) refl;
       long = long;
       formed = packet-formed limit protocol extension unit s (a .within);
-      smallest = lol-smallest protocol (length unit);
+      smallest = code-smallest protocol (length unit);
       unwrapped = packet-unwrapped limit protocol extension unit s (a .within);
       unit-back = packet-unit limit protocol extension unit s (a .within);
     }

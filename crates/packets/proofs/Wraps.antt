@@ -14,7 +14,7 @@ use Rattle.octets.proofs.Choices.{split, none-holds, or-false}
 use Rattle.octets.proofs.Written.{part-within, length-over, over-over}
 use Rattle.packets.specs.Packet.{whole, look, limit-in-range, well-formed, packet-version, protocol-of, header-length, size-of}
 use Rattle.packets.specs.Front.{front}
-use Rattle.packets.specs.Wrap.{lol-for, wrapped-total, wrapped, wrap-in-range, wrap-rows, wrapping, its-lol, extension-of, unwrap-rows, unwrapping, unit-of}
+use Rattle.packets.specs.Wrap.{length-of-length-for, wrapped-total, wrapped, wrap-in-range, wrap-rows, wrapping, its-length-of-length, extension-of, unwrap-rows, unwrapping, unit-of}
 use Rattle.packets.proofs.Grown.{look-size}
 use Rattle.packets.proofs.Readings.{test-formed}
 use Rattle.packets.proofs.Fronts.{length-front}
@@ -57,14 +57,14 @@ behind d a at unit e h =
 
 -- the header, and then the unit
 pub unit-written : (protocol extension : ℕ) (unit output : List ℕ) → wrapped-total protocol (length unit) ≤ length output
-    → laid-part (over output 0 (front protocol extension (lol-for protocol (length unit)) (wrapped-total protocol (length unit))))
-    (header-length (lol-for protocol (length unit))) 0 (length unit) unit
+    → laid-part (over output 0 (front protocol extension (length-of-length-for protocol (length unit)) (wrapped-total protocol (length unit))))
+    (header-length (length-of-length-for protocol (length unit))) 0 (length unit) unit
     ≡ over output 0 (wrapped protocol extension unit)
 unfolding wrapped wrapped-total
 unit-written protocol extension unit output h =
-    let lol : ℕ = lol-for protocol (length unit) in
+    let code : ℕ = length-of-length-for protocol (length unit) in
     let total : ℕ = wrapped-total protocol (length unit) in
-    behind output (front protocol extension lol total) (header-length lol) unit (length-front protocol extension lol total) (omega arith)
+    behind output (front protocol extension code total) (header-length code) unit (length-front protocol extension code total) (omega arith)
 
 module _ (limit protocol extension : ℕ) (unit output : List ℕ) where
   abbrev total : ℕ
@@ -97,8 +97,8 @@ module _ (limit : ℕ) (p : List ℕ) where
         refusal = 0;
         protocol = protocol-of (getD p 0 0);
         extension = extension-of p;
-        start = header-length (its-lol p);
-        size = length p - header-length (its-lol p);
+        start = header-length (its-length-of-length p);
+        size = length p - header-length (its-length-of-length p);
       }
   unfolding unwrapping
   unwrapping-done h = rw (eq-eqb (first (unwrap-rows limit p)) 0 h) refl
@@ -110,7 +110,7 @@ unfolding unwrap-rows part-of unit-of size-of
 unit-handed limit p e =
     let a = or-false (not (well-formed limit p)) (eqb (packet-version (getD p 0 0)) 0) (none-holds 7 _ _ (none-holds 0 (not (limit-in-range limit)) _ e .1) .0) in
     let says : look limit p ≡ whole (length p) = test-formed limit p (not-false _ (a .0)) in
-    let start : ℕ = header-length (its-lol p) in
+    let start : ℕ = header-length (its-length-of-length p) in
     let header : start ≤ length p = rw (a .1) at (look-size limit p says) in
     let end : start + (length p - start) ≡ length p = omega arith in
     rw (unwrapping-done limit p e, end, le-leb (length p) (length p) (omega arith))

@@ -14,8 +14,8 @@ unfoldable pub idle-packet : ℕ → ℕ → List ℕ
 idle-packet fill r = idle-header r ++ replicate (r - length (idle-header r)) fill
 
 -- the length-of-length that the header has
-unfoldable pub idle-lol : ℕ → ℕ
-idle-lol r = pick (eqb r 1) 0 (pick (leb r 255) 1 2)
+unfoldable pub idle-length-of-length : ℕ → ℕ
+idle-length-of-length r = pick (eqb r 1) 0 (pick (leb r 255) 1 2)
 
 -- the refusals, for r octets and the room there is: a length that no idle packet has, and lack of room
 unfoldable pub idle-packet-rows : ℕ → ℕ → List Row

@@ -14,20 +14,20 @@ use Rattle.packets.specs.declared.wrapping.Unwrapped.{Unwrapped}
 -- ---- wrapping
 
 -- the length-of-length of the smallest header that fits a data unit of n octets; protocol 6 needs four octets at least
-unfoldable pub lol-for : ℕ → ℕ → ℕ
-lol-for protocol n =
+unfoldable pub length-of-length-for : ℕ → ℕ → ℕ
+length-of-length-for protocol n =
     pick (and (leb (n + 2) 255) (not (eqb protocol 6))) 1
     (pick (leb (n + 4) 65535) 2 3)
 
 -- the length of the packet
 unfoldable pub wrapped-total : ℕ → ℕ → ℕ
-wrapped-total protocol n = n + header-length (lol-for protocol n)
+wrapped-total protocol n = n + header-length (length-of-length-for protocol n)
 
 -- the packet
 unfoldable pub wrapped : ℕ → ℕ → List ℕ → List ℕ
 wrapped protocol extension unit =
     let n : ℕ = length unit in
-    front protocol extension (lol-for protocol n) (wrapped-total protocol n) ++ unit
+    front protocol extension (length-of-length-for protocol n) (wrapped-total protocol n) ++ unit
 
 -- a protocol from 1 to 7, and an extension to 15, which is 0 without protocol 6
 unfoldable pub wrap-in-range : ℕ → ℕ → ℕ → Bool
@@ -66,29 +66,30 @@ unfoldable pub wraps : Wrapped → List ℕ → Wrapping
 wraps (Wrapped.Refused refusal) output = record { accepted = false; refusal = refusal; total = 0; output = output }
 wraps (Wrapped.Total total) output = record { accepted = true; refusal = 0; total = total; output = output }
 
--- a header suits a data unit of n octets: its length field holds the total, and for protocol 6 it has the extension
-pub record Suits (protocol n lol : ℕ) : Type 0 where
-  pub least : 1 ≤ lol
-  pub most : lol ≤ 3
-  pub stated : n + header-length lol < 256 ^ (header-length lol / 2)
-  pub extended : protocol ≡ 6 → 2 ≤ lol
+-- a header by its length-of-length suits a data unit of n octets: its length field holds the total, and for protocol 6 it has the
+-- extension
+pub record Suits (protocol n code : ℕ) : Type 0 where
+  pub least : 1 ≤ code
+  pub most : code ≤ 3
+  pub stated : n + header-length code < 256 ^ (header-length code / 2)
+  pub extended : protocol ≡ 6 → 2 ≤ code
 
 -- ---- unwrapping
 
 -- the length-of-length of a packet's header
-abbrev pub its-lol : List ℕ → ℕ
-its-lol p = length-of-length (getD p 0 0)
+abbrev pub its-length-of-length : List ℕ → ℕ
+its-length-of-length p = length-of-length (getD p 0 0)
 
 -- the extension and the reserved field of a header, 0 where it has none
 unfoldable pub extension-of : List ℕ → ℕ
-extension-of p = pick (leb 2 (its-lol p)) (field (getD p 1 0) 0 4) 0
+extension-of p = pick (leb 2 (its-length-of-length p)) (field (getD p 1 0) 0 4) 0
 
 unfoldable pub reserved-of : List ℕ → ℕ
-reserved-of p = pick (leb 3 (its-lol p)) (number-at 2 2 p) 0
+reserved-of p = pick (leb 3 (its-length-of-length p)) (number-at 2 2 p) 0
 
 -- the data unit
 unfoldable pub unit-of : List ℕ → List ℕ
-unit-of p = drop (header-length (its-lol p)) p
+unit-of p = drop (header-length (its-length-of-length p)) p
 
 -- the refusals: a space packet is refused by 8, an extension without protocol 6 and reserved bits by 6
 unfoldable pub unwrap-rows : ℕ → List ℕ → List Row
@@ -112,7 +113,7 @@ pub record Unwrapping : Type 0 where
 unfoldable pub unwrapping : ℕ → List ℕ → Unwrapping
 unwrapping limit p =
     let refusal : ℕ = first (unwrap-rows limit p) in
-    let start : ℕ = header-length (its-lol p) in
+    let start : ℕ = header-length (its-length-of-length p) in
     pick (eqb refusal 0)
     (record { accepted = true; refusal = 0; protocol = protocol-of (getD p 0 0); extension = extension-of p; start = start; size = length p - start })
     (record { accepted = false; refusal = refusal; protocol = 0; extension = 0; start = 0; size = 0 })
@@ -135,7 +136,7 @@ pub record RoundTrip (limit protocol extension : ℕ) (unit output : List ℕ) :
       ≡ wrapped protocol extension unit ++ drop (wrapped-total protocol (length unit)) output
   pub long : length (wrapped protocol extension unit) ≡ wrapped-total protocol (length unit)
   pub formed : WellFormed limit (wrapped protocol extension unit)
-  pub smallest : (lol : ℕ) → Suits protocol (length unit) lol → header-length (lol-for protocol (length unit)) ≤ header-length lol
+  pub smallest : (code : ℕ) → Suits protocol (length unit) code → header-length (length-of-length-for protocol (length unit)) ≤ header-length code
   -- unwrapping it gives protocol and extension back, and the part that it speaks of is the unit
   pub unwrapped : unwrapping limit (wrapped protocol extension unit)
       ≡ record {
@@ -143,7 +144,7 @@ pub record RoundTrip (limit protocol extension : ℕ) (unit output : List ℕ) :
         refusal = 0;
         protocol = protocol;
         extension = extension;
-        start = header-length (lol-for protocol (length unit));
+        start = header-length (length-of-length-for protocol (length unit));
         size = length unit;
       }
-  pub unit-back : part-of (wrapped protocol extension unit) (header-length (lol-for protocol (length unit))) (length unit) ≡ unit
+  pub unit-back : part-of (wrapped protocol extension unit) (header-length (length-of-length-for protocol (length unit))) (length unit) ≡ unit

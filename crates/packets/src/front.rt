@@ -6,7 +6,7 @@ ghost use lib.Dec.{eqb};
 ghost use Rattle.octets.specs.Basics.{pick, over, first};
 ghost use Rattle.packets.specs.Packet.{header-length};
 ghost use Rattle.packets.specs.Front.{first-octet, second-octet, front};
-ghost use Rattle.packets.specs.Idle.{idle-packet, idle-lol, idle-packet-rows};
+ghost use Rattle.packets.specs.Idle.{idle-packet, idle-length-of-length, idle-packet-rows};
 use super::EXTENSION;
 use super::LENGTH_OF_LENGTH;
 use super::PROTOCOL;
@@ -21,12 +21,12 @@ const MOST_SHORT_IDLE: usize = 255;
 const MOST_IDLE: usize = 65535;
 
 // The first octet of an encapsulation packet.
-fn first_octet(protocol: u8, lol: u8) -> u8
-    ensures { λ r. ⌜ r ≡ first-octet protocol lol ⌝ }
+fn first_octet(protocol: u8, code: u8) -> u8
+    ensures { λ r. ⌜ r ≡ first-octet protocol code ⌝ }
 {
     let versioned = octets::placed(0, VERSION, 7);
     let addressed = octets::placed(versioned, PROTOCOL, protocol as u64);
-    octets::placed(addressed, LENGTH_OF_LENGTH, lol as u64) as u8
+    octets::placed(addressed, LENGTH_OF_LENGTH, code as u64) as u8
 }
 
 // The second, where the header has one that is not its length.
@@ -42,22 +42,22 @@ pub(crate) fn write_front(
     at: usize,
     protocol: u8,
     extension: u8,
-    lol: u8,
+    code: u8,
     total: usize,
 )
-    requires { ⌜ at + header-length lol ≤ length (now out) ⌝ }
-    ensures { λ _. ⌜ now (out .exit) ≡ over (now (out .entry)) at (front protocol extension lol total) ⌝ }
+    requires { ⌜ at + header-length code ≤ length (now out) ⌝ }
+    ensures { λ _. ⌜ now (out .exit) ≡ over (now (out .entry)) at (front protocol extension code total) ⌝ }
 {
-    let size = header_length(lol);
+    let size = header_length(code);
     let half = size / 2;
-    let opening = [first_octet(protocol, lol), second_octet(extension), 0, 0];
+    let opening = [first_octet(protocol, code), second_octet(extension), 0, 0];
     octets::lay(out, at, &opening, 0, size - half);
     octets::put(out, at + (size - half), half, total as u64);
 }
 
 // The length-of-length of an idle packet of r octets.
-fn idle_lol(r: usize) -> u8
-    ensures { λ n. ⌜ n ≡ idle-lol r ⌝ }
+fn idle_length_of_length(r: usize) -> u8
+    ensures { λ n. ⌜ n ≡ idle-length-of-length r ⌝ }
 {
     if r == 1 {
         return 0;
@@ -88,9 +88,9 @@ pub fn write_idle(out: &mut [u8], at: usize, r: usize, fill: u8) -> u8
     if refusal != 0 {
         return refusal;
     }
-    let lol = idle_lol(r);
-    let size = header_length(lol);
-    write_front(out, at, 0, 0, lol, r);
+    let code = idle_length_of_length(r);
+    let size = header_length(code);
+    write_front(out, at, 0, 0, code, r);
     octets::fill(out, at + size, r - size, fill);
     0
 }

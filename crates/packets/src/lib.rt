@@ -87,11 +87,11 @@ fn in_range(limit: usize) -> bool
     (limits::LEAST <= limit) & (limit <= limits::MOST)
 }
 
-// The length of an encapsulation packet's header for its length-of-length field.
-fn header_length(lol: u8) -> usize
-    ensures { λ r. ⌜ r ≡ header-length lol ⌝ }
+// The length of an encapsulation packet's header for its length-of-length field, which is `code` in this crate.
+fn header_length(code: u8) -> usize
+    ensures { λ r. ⌜ r ≡ header-length code ⌝ }
 {
-    match lol {
+    match code {
         0 => 1,
         1 => 2,
         2 => 4,
@@ -123,10 +123,10 @@ fn counted(limit: usize, len: usize, size: usize, total: usize) -> Seen
 }
 
 // The length field of an encapsulation header, its second half; 0 where it is not all there.
-fn stated(start: &[u8], lol: u8) -> u32
-    ensures { λ r. ⌜ r ≡ number-at (header-length lol / 2) (header-length lol / 2) (now (start .entry)) ⌝ }
+fn stated(start: &[u8], code: u8) -> u32
+    ensures { λ r. ⌜ r ≡ number-at (header-length code / 2) (header-length code / 2) (now (start .entry)) ⌝ }
 {
-    match lol {
+    match code {
         0 => 0,
         1 => octets::octet(start, 1) as u32,
         2 => octets::number2(start, 2) as u32,
@@ -142,12 +142,12 @@ fn total_of(length: u32) -> usize
 }
 
 // What an encapsulation packet's first octets say.
-fn encapsulation(limit: usize, protocol: u8, lol: u8, start: &[u8]) -> Seen
-    ensures { λ r. ⌜ seen r ≡ encapsulation limit protocol lol (now (start .entry)) ⌝ }
+fn encapsulation(limit: usize, protocol: u8, code: u8, start: &[u8]) -> Seen
+    ensures { λ r. ⌜ seen r ≡ encapsulation limit protocol code (now (start .entry)) ⌝ }
 {
-    if lol != 0 {
-        let total = total_of(stated(start, lol));
-        return counted(limit, start.len(), header_length(lol), total);
+    if code != 0 {
+        let total = total_of(stated(start, code));
+        return counted(limit, start.len(), header_length(code), total);
     }
     if protocol == IDLE_PROTOCOL {
         return Seen::Whole { total: 1 };

@@ -2,7 +2,7 @@
 ghost use mathlib.Core.Path.{_≡_};
 ghost use lib.ListN.{length};
 ghost use Rattle.octets.specs.Basics.{first};
-ghost use Rattle.packets.specs.Wrap.{lol-for, wrapped-total, wrap-in-range, wrap-rows, wrapping, wraps, extension-of, reserved-of, unwrap-rows, unwrapping, unwraps, unit-part};
+ghost use Rattle.packets.specs.Wrap.{length-of-length-for, wrapped-total, wrap-in-range, wrap-rows, wrapping, wraps, extension-of, reserved-of, unwrap-rows, unwrapping, unwraps, unit-part};
 use super::EXTENDED_PROTOCOL;
 use super::EXTENSION;
 use super::formed;
@@ -47,8 +47,8 @@ pub enum Unwrapped {
 }
 
 // The length-of-length of the smallest header that fits a data unit of n octets.
-fn lol_for(protocol: u8, n: usize) -> u8
-    ensures { λ r. ⌜ r ≡ lol-for protocol n ⌝ }
+fn length_of_length_for(protocol: u8, n: usize) -> u8
+    ensures { λ r. ⌜ r ≡ length-of-length-for protocol n ⌝ }
 {
     if (n <= MOST_BEHIND_TWO) & (protocol != EXTENDED_PROTOCOL) {
         return 1;
@@ -60,7 +60,7 @@ fn lol_for(protocol: u8, n: usize) -> u8
 fn wrapped_total(protocol: u8, unit: &[u8]) -> usize
     ensures { λ r. ⌜ r ≡ wrapped-total protocol (length (now (unit .entry))) ⌝ }
 {
-    unit.len() + header_length(lol_for(protocol, unit.len()))
+    unit.len() + header_length(length_of_length_for(protocol, unit.len()))
 }
 
 // A protocol from 1 to 7 and an extension up to 15, which is 0 without protocol 6.
@@ -107,9 +107,9 @@ pub fn wrap(limit: usize, protocol: u8, extension: u8, unit: &[u8], out: &mut [u
     if refusal != 0 {
         return Wrapped::Refused { refusal };
     }
-    let lol = lol_for(protocol, n);
-    write_front(out, 0, protocol, extension, lol, total);
-    octets::lay(out, header_length(lol), unit, 0, n);
+    let code = length_of_length_for(protocol, n);
+    write_front(out, 0, protocol, extension, code, total);
+    octets::lay(out, header_length(code), unit, 0, n);
     Wrapped::Total { total }
 }
 

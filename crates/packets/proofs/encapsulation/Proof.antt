@@ -19,8 +19,8 @@ returns c =
     let a = at-if1 .before .before .args in
     c .counted .ensures
     ∙ ap (λ (n : ℕ). counted (a .limit) (length (a .start .now)) n (at-total .total-of .result)) (at-size .header-length .ensures)
-    ∙ ap (counted (a .limit) (length (a .start .now)) (header-length (a .lol))) (at-total .total-of .ensures ∙ at-stated .stated .ensures)
-    ∙ sym (half-read (a .limit) (a .start .now) (a .protocol) (a .lol) (at-if1 .if1 .taken))
+    ∙ ap (counted (a .limit) (length (a .start .now)) (header-length (a .code))) (at-total .total-of .ensures ∙ at-stated .stated .ensures)
+    ∙ sym (half-read (a .limit) (a .start .now) (a .protocol) (a .code) (at-if1 .if1 .taken))
 
 returns-2 : tie.Need-returns-2
 unfolding seen

@@ -19,7 +19,7 @@ unfolding header-length
 returns-3 c = ap header-length (sym (c .match .keys3))
 
 returns-4 : tie.Need-returns-4
-returns-4 c = long-header (c .before .args .lol) (c .match .rest .0 .0 .1) (c .match .rest .0 .1) (c .match .rest .1)
+returns-4 c = long-header (c .before .args .code) (c .match .rest .0 .0 .1) (c .match .rest .0 .1) (c .match .rest .1)
 
 pub header-length-spec : {M : Type 1} → statement M
 header-length-spec = tie.close (tie.spec returns returns-2 returns-3 returns-4)

@@ -38,7 +38,7 @@ returns-4 : tie.Need-returns-4
 returns-4 c =
     let a = c .before .before .before .args in
     let m = c .before .match .rest in
-    c .number4 .ensures ∙ half (a .start .now) (long-header (a .lol) (m .0 .0 .1) (m .0 .1) (m .1))
+    c .number4 .ensures ∙ half (a .start .now) (long-header (a .code) (m .0 .0 .1) (m .0 .1) (m .1))
 
 pub stated-spec : {M : Type 1} → statement M
 stated-spec =

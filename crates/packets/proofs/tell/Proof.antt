@@ -27,8 +27,8 @@ returns c =
 returns-2 : tie.Need-returns-2
 unfolding answer version-of told key-of size-of
 returns-2 c =
-    let at-lol = c .before in
-    let at-idle = at-lol .before in
+    let at-code = c .before in
+    let at-idle = at-code .before in
     let at-if1 = at-idle .before .before in
     let at-start = at-if1 .before .before .before in
     let os = at-start .args .start .now in
@@ -38,7 +38,7 @@ returns-2 c =
       v,
       at-idle .before .protocol .ensures,
       at-idle .is-idle2 .ensures,
-      c .header-length .ensures ∙ ap header-length (at-lol .length-of-length .ensures),
+      c .header-length .ensures ∙ ap header-length (at-code .length-of-length .ensures),
     ) refl
 
 pub tell-spec : {M : Type 1} → statement M

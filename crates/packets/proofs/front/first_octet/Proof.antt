@@ -10,17 +10,17 @@ use Rattle.packets.proofs.front.first_octet.Statement.{statement}
 use Rattle.packets.proofs.front.first_octet.Tie as tie
 
 -- what is placed last
-octet : (c : tie.After-placed3) → c .placed3 .result ≡ first-octet (c .before .before .before .args .protocol) (c .before .before .before .args .lol)
+octet : (c : tie.After-placed3) → c .placed3 .result ≡ first-octet (c .before .before .before .args .protocol) (c .before .before .before .args .code)
 unfolding first-octet
 octet c =
     let a = c .before .before .before .args in
     c .placed3 .ensures
-    ∙ ap (λ (word : ℕ). placed word 0 2 (a .lol)) (c .before .placed2 .ensures ∙ ap (λ (word : ℕ). placed word 2 3 (a .protocol)) (c .before .before .placed .ensures))
+    ∙ ap (λ (word : ℕ). placed word 0 2 (a .code)) (c .before .placed2 .ensures ∙ ap (λ (word : ℕ). placed word 2 3 (a .protocol)) (c .before .before .placed .ensures))
 
 cast-result : tie.Need-cast-result
 cast-result c =
     let a = c .before .before .before .args in
-    record { fits = subst (λ (n : ℕ). n < 256) (sym (octet c)) (first-octet-lt (a .protocol) (a .lol)) }
+    record { fits = subst (λ (n : ℕ). n < 256) (sym (octet c)) (first-octet-lt (a .protocol) (a .code)) }
 
 returns : tie.Need-returns
 returns c = octet c

@@ -13,11 +13,11 @@ use Rattle.packets.proofs.front.write_front.Statement.{statement}
 use Rattle.packets.proofs.front.write_front.Tie as tie
 
 -- what is written, by what the calls give
-written : (protocol extension lol total : ℕ) (d : List ℕ) (at : ℕ) {size one two : ℕ} {begun done : List ℕ} → at + header-length lol ≤ length d
-    → size ≡ header-length lol → one ≡ first-octet protocol lol → two ≡ second-octet extension
+written : (protocol extension code total : ℕ) (d : List ℕ) (at : ℕ) {size one two : ℕ} {begun done : List ℕ} → at + header-length code ≤ length d
+    → size ≡ header-length code → one ≡ first-octet protocol code → two ≡ second-octet extension
     → begun ≡ laid-part d at 0 (size - size / 2) (one ∷ two ∷ 0 ∷ 0 ∷ []) → done ≡ laid begun (at + (size - size / 2)) (octets (size / 2) total)
-    → done ≡ over d at (front protocol extension lol total)
-written protocol extension lol total d at h s a b l p = cc (front-written protocol extension lol total d at h)
+    → done ≡ over d at (front protocol extension code total)
+written protocol extension code total d at h s a b l p = cc (front-written protocol extension code total d at h)
 
 returns : tie.Need-returns
 returns c =
@@ -28,7 +28,7 @@ returns c =
     let at-size = at-first .before in
     let at-start = at-size .before .before in
     let a = at-start .args in
-    written (a .protocol) (a .extension) (a .lol) (a .total) (a .out .now) (a .at) (at-start .pre) (at-size .header-length .ensures)
+    written (a .protocol) (a .extension) (a .code) (a .total) (a .out .now) (a .at) (at-start .pre) (at-size .header-length .ensures)
     (at-first .first-octet .ensures) (at-second .second-octet .ensures) (at-lay .lay .ensures .left) (at-put .put .ensures .left)
 
 pub write-front-spec : {M : Type 1} → statement M

@@ -9,7 +9,7 @@ use borrow.Author.Tests.{ne-eqb}
 use Rattle.octets.specs.Basics.{over, laid, first}
 use Rattle.packets.specs.Packet.{header-length}
 use Rattle.packets.specs.Front.{front}
-use Rattle.packets.specs.Idle.{idle-packet, idle-lol, idle-packet-rows}
+use Rattle.packets.specs.Idle.{idle-packet, idle-length-of-length, idle-packet-rows}
 use Rattle.packets.proofs.Idles.{idle-size, idle-admitted, idle-written}
 use borrow.Author.Needs.{needs}
 use Rattle.packets.proofs.front.write_idle.Statement.{statement}
@@ -40,8 +40,8 @@ module _ (c : tie.Else1) where
 -- the header is no longer than the packet
 shorter : (c : tie.After-header-length) → c .header-length .result ≤ its (c .before .before) .args .r
 shorter c =
-    let at-lol = c .before in
-    omega (arith, c .header-length .ensures, ap header-length (at-lol .idle-lol .ensures), idle-size (its (at-lol .before) .args .r) (passed (at-lol .before) .0))
+    let at-code = c .before in
+    omega (arith, c .header-length .ensures, ap header-length (at-code .idle-length-of-length .ensures), idle-size (its (at-code .before) .args .r) (passed (at-code .before) .0))
 
 write-front-requires : tie.Need-write-front-requires
 write-front-requires c κs =
@@ -58,8 +58,8 @@ sub-fill : tie.Need-sub-fill
 sub-fill c = shorter (c .before .before .before .before .before)
 
 -- what is written, by what the calls give
-written : (d : List ℕ) (at fill r : ℕ) {lol size : ℕ} {begun done : List ℕ} → 1 ≤ r → at + r ≤ length d → lol ≡ idle-lol r → size ≡ header-length lol
-    → begun ≡ over d at (front 0 0 lol r) → done ≡ laid begun (at + size) (replicate (r - size) fill) → done ≡ over d at (idle-packet fill r)
+written : (d : List ℕ) (at fill r : ℕ) {code size : ℕ} {begun done : List ℕ} → 1 ≤ r → at + r ≤ length d → code ≡ idle-length-of-length r → size ≡ header-length code
+    → begun ≡ over d at (front 0 0 code r) → done ≡ laid begun (at + size) (replicate (r - size) fill) → done ≡ over d at (idle-packet fill r)
 written d at fill r some h l s b w = cc (idle-written d at fill r some h)
 
 returns-2 : tie.Need-returns-2
@@ -67,12 +67,12 @@ returns-2 c =
     let at-fill = c .before .before in
     let at-front = at-fill .before .before .before .before in
     let at-header = at-front .before .before in
-    let at-lol = at-header .before in
-    let at-if1 = at-lol .before in
+    let at-code = at-header .before in
+    let at-if1 = at-code .before in
     let a = its at-if1 .args in (
       sym (none at-if1),
       written (a .out .now) (a .at) (a .fill) (a .r) (passed at-if1 .0) (passed at-if1 .1)
-          (at-lol .idle-lol .ensures) (at-header .header-length .ensures) (at-front .write-front .ensures) (at-fill .fill .ensures .left),
+          (at-code .idle-length-of-length .ensures) (at-header .header-length .ensures) (at-front .write-front .ensures) (at-fill .fill .ensures .left),
     )
 
 pub write-idle-spec : {M : Type 1} → statement M

@@ -6,7 +6,7 @@ use Prim.Native.Nat.{ℕ, _-_}
 use lib.ListN.{length, getD}
 use Rattle.octets.specs.Basics.{first}
 use Rattle.packets.specs.Packet.{protocol-of, header-length}
-use Rattle.packets.specs.Wrap.{its-lol, extension-of, unwrap-rows, unwrapping, unwraps}
+use Rattle.packets.specs.Wrap.{its-length-of-length, extension-of, unwrap-rows, unwrapping, unwraps}
 use Rattle.packets.specs.declared.wrapping.Unwrapped.{Unwrapped}
 use Rattle.packets.proofs.Wraps.{unwrapping-refused, unwrapping-done}
 use borrow.Author.Needs.{needs}
@@ -19,7 +19,7 @@ module _ (limit : ℕ) (p : List ℕ) {refusal : ℕ} (r : refusal ≡ first (un
   unfolding unwraps
   refused h = cc (unwrapping-refused limit p (λ z. h (cc)))
 
-  done : refusal ≡ 0 → {lol start protocol extension size : ℕ} → lol ≡ its-lol p → start ≡ header-length lol → protocol ≡ protocol-of (getD p 0 0)
+  done : refusal ≡ 0 → {code start protocol extension size : ℕ} → code ≡ its-length-of-length p → start ≡ header-length code → protocol ≡ protocol-of (getD p 0 0)
       → extension ≡ extension-of p → size ≡ length p - start → unwraps (Unwrapped.Unit protocol extension start size) ≡ unwrapping limit p
   unfolding unwraps
   done h l s q e n = cc (unwrapping-done limit p (cc))
@@ -33,10 +33,10 @@ returns-2 : tie.Need-returns-2
 returns-2 c =
     let at-protocol = c .before .before in
     let at-header = at-protocol .before in
-    let at-lol = at-header .before in
-    let at-refusal = at-lol .before .before in
+    let at-code = at-header .before in
+    let at-refusal = at-code .before .before in
     let a = at-refusal .before .before .args in
-    done (a .limit) (a .p .now) (at-refusal .unwrap-refusal .ensures) (at-lol .before .if1 .left) (at-lol .length-of-length .ensures)
+    done (a .limit) (a .p .now) (at-refusal .unwrap-refusal .ensures) (at-code .before .if1 .left) (at-code .length-of-length .ensures)
     (at-header .header-length .ensures) (at-protocol .protocol .ensures) (c .before .extension .ensures) (c .rest .ensures)
 
 pub unwrap-spec : {M : Type 1} → statement M

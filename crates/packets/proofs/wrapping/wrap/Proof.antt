@@ -8,7 +8,7 @@ use lib.ListN.{length}
 use Rattle.octets.specs.Basics.{first, over, laid-part}
 use Rattle.packets.specs.Packet.{header-length}
 use Rattle.packets.specs.Front.{front}
-use Rattle.packets.specs.Wrap.{lol-for, wrapped-total, wrap-rows, wrapping, wraps}
+use Rattle.packets.specs.Wrap.{length-of-length-for, wrapped-total, wrap-rows, wrapping, wraps}
 use Rattle.packets.specs.declared.wrapping.Wrapped.{Wrapped}
 use Rattle.packets.proofs.Wraps.{admitted, wrapping-refused, wrapping-done, unit-written}
 use borrow.Author.Needs.{needs}
@@ -25,12 +25,12 @@ module _ (limit protocol extension : ℕ) (unit output : List ℕ) {total refusa
   roomy : refusal ≡ 0 → total ≤ length output
   roomy h = admitted limit protocol extension (length unit) total (length output) (sym r ∙ h) .roomy
 
-  header-fits : refusal ≡ 0 → {lol : ℕ} → lol ≡ lol-for protocol (length unit) → 0 + header-length lol ≤ length output
+  header-fits : refusal ≡ 0 → {code : ℕ} → code ≡ length-of-length-for protocol (length unit) → 0 + header-length code ≤ length output
   unfolding wrapped-total
   header-fits h l = omega (arith, ap header-length l, roomy h)
 
-  done : refusal ≡ 0 → {lol size : ℕ} {begun written : List ℕ} → lol ≡ lol-for protocol (length unit) → size ≡ header-length lol
-      → begun ≡ over output 0 (front protocol extension lol total) → written ≡ laid-part begun size 0 (length unit) unit
+  done : refusal ≡ 0 → {code size : ℕ} {begun written : List ℕ} → code ≡ length-of-length-for protocol (length unit) → size ≡ header-length code
+      → begun ≡ over output 0 (front protocol extension code total) → written ≡ laid-part begun size 0 (length unit) unit
       → wraps (Wrapped.Total total) written ≡ wrapping limit protocol extension unit output
   unfolding wraps
   done h l s b w =
@@ -50,21 +50,21 @@ write-front-requires c κs =
     let at-total = at-refusal .before in
     let a = at-total .before .before .before .args in
     header-fits (a .limit) (a .protocol) (a .extension) (a .unit .now) (a .out .now)
-    (at-total .wrapped-total .ensures) (at-refusal .wrap-refusal .ensures) (at-if1 .if1 .left) (c .before .lol-for .ensures)
+    (at-total .wrapped-total .ensures) (at-refusal .wrap-refusal .ensures) (at-if1 .if1 .left) (c .before .length-of-length-for .ensures)
 
 returns-2 : tie.Need-returns-2
 returns-2 c =
     let at-lay = c .before .before in
     let at-header = at-lay .before in
     let at-front = at-header .before .before .before .before in
-    let at-lol = at-front .before .before in
-    let at-if1 = at-lol .before in
+    let at-code = at-front .before .before in
+    let at-if1 = at-code .before in
     let at-refusal = at-if1 .before in
     let at-total = at-refusal .before in
     let a = at-total .before .before .before .args in
     done (a .limit) (a .protocol) (a .extension) (a .unit .now) (a .out .now)
     (at-total .wrapped-total .ensures) (at-refusal .wrap-refusal .ensures) (at-if1 .if1 .left)
-    (at-lol .lol-for .ensures) (at-header .header-length .ensures) (at-front .write-front .ensures) (at-lay .lay .ensures .left)
+    (at-code .length-of-length-for .ensures) (at-header .header-length .ensures) (at-front .write-front .ensures) (at-lay .lay .ensures .left)
 
 pub wrap-spec : {M : Type 1} → statement M
 wrap-spec =

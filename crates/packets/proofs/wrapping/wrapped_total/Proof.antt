@@ -12,12 +12,12 @@ use Rattle.packets.proofs.wrapping.wrapped_total.Statement.{statement}
 use Rattle.packets.proofs.wrapping.wrapped_total.Tie as tie
 
 add-result : tie.Need-add-result
-add-result c = omega (arith, header-most (c .before .lol-for .result), c .before .before .before .good)
+add-result c = omega (arith, header-most (c .before .length-of-length-for .result), c .before .before .before .good)
 
 returns : tie.Need-returns
 unfolding wrapped-total
 returns c =
-    ap (λ (n : ℕ). length (c .before .before .before .args .unit .now) + n) (c .header-length .ensures ∙ ap header-length (c .before .lol-for .ensures))
+    ap (λ (n : ℕ). length (c .before .before .before .args .unit .now) + n) (c .header-length .ensures ∙ ap header-length (c .before .length-of-length-for .ensures))
 
 pub wrapped-total-spec : {M : Type 1} → statement M
 wrapped-total-spec =
