@@ -59,8 +59,8 @@ fn unwrap(limit: usize, p: &[u8]) {
         Unwrapped::Unit {
             protocol,
             extension,
-            start: _,
             size,
+            ..
         } => {
             say::numbers(say::UNIT, protocol as u64, extension as u64, size as u64, 0);
             say::shown(packets::unit_part(p, answer));

@@ -208,7 +208,7 @@ fn full(e: Ends) -> Ends {
 // What the multiplexer answered: a refusal is said, and a frame that is full is said and heard.
 fn answered(e: Ends, r: Reply) -> Ends {
     match r {
-        Reply::Refused { refusal, mux: _ } => {
+        Reply::Refused { refusal, .. } => {
             say::label(e.label);
             say::refused(refusal);
             say::end();
@@ -216,8 +216,8 @@ fn answered(e: Ends, r: Reply) -> Ends {
         }
         Reply::Done {
             full: is_full,
-            taken: _,
             mux,
+            ..
         } => {
             let mut after = e;
             after.mux = mux;
@@ -232,12 +232,8 @@ fn answered(e: Ends, r: Reply) -> Ends {
 // Whether a packet need not be put again.
 fn is_done(r: Reply) -> bool {
     match r {
-        Reply::Refused { refusal: _, mux: _ } => true,
-        Reply::Done {
-            full: _,
-            taken,
-            mux: _,
-        } => taken,
+        Reply::Refused { .. } => true,
+        Reply::Done { taken, .. } => taken,
     }
 }
 
@@ -276,12 +272,8 @@ pub(crate) fn transmit(c: Call, e: Ends, p: &[u8]) -> Ends {
 // What the multiplexer answered to one call.
 fn replied(r: Reply) {
     match r {
-        Reply::Refused { refusal, mux: _ } => say::refused(refusal),
-        Reply::Done {
-            full,
-            taken,
-            mux: _,
-        } => {
+        Reply::Refused { refusal, .. } => say::refused(refusal),
+        Reply::Done { full, taken, .. } => {
             say::numbers(say::DONE, full as u64, taken as u64, 0, 0);
         }
     }

@@ -196,8 +196,8 @@ pub(crate) fn header(h: Header) -> bool {
             kind: of,
             key,
             idle,
-            size: _,
             total,
+            ..
         } => {
             kind(of, key, idle, total);
             idle
