@@ -7,6 +7,7 @@ ghost use Rattle.octets.specs.Basics.{pick, over, first};
 ghost use Rattle.packets.specs.Packet.{header-length};
 ghost use Rattle.packets.specs.Front.{first-octet, second-octet, front};
 ghost use Rattle.packets.specs.Idle.{idle-packet, idle-length-of-length, idle-packet-rows};
+use super::ENCAPSULATION_VERSION;
 use super::EXTENSION;
 use super::LENGTH_OF_LENGTH;
 use super::PROTOCOL;
@@ -24,7 +25,7 @@ const MOST_IDLE: usize = 65535;
 fn first_octet(protocol: u8, code: u8) -> u8
     ensures { λ r. ⌜ r ≡ first-octet protocol code ⌝ }
 {
-    let versioned = octets::placed(0, VERSION, 7);
+    let versioned = octets::placed(0, VERSION, ENCAPSULATION_VERSION as u64);
     let addressed = octets::placed(versioned, PROTOCOL, protocol as u64);
     octets::placed(addressed, LENGTH_OF_LENGTH, code as u64) as u8
 }

@@ -31,6 +31,11 @@ const APID: Place = Place {
     width: 11,
 };
 
+// The versions of the two kinds of packet.
+const SPACE_VERSION: u8 = 0;
+
+const ENCAPSULATION_VERSION: u8 = 7;
+
 // The octets of a space packet's header, and what its length field says less than the packet's length.
 const SPACE_HEADER: usize = 6;
 
@@ -198,7 +203,7 @@ pub fn read_length(limit: usize, start: &[u8]) -> Seen
         return Seen::More;
     }
     let version = version(start);
-    if version == 0 {
+    if version == SPACE_VERSION {
         return counted(
             limit,
             len,
@@ -206,7 +211,7 @@ pub fn read_length(limit: usize, start: &[u8]) -> Seen
             octets::number2(start, 4) as usize + LENGTH_LESS,
         );
     }
-    if version == 7 {
+    if version == ENCAPSULATION_VERSION {
         return encapsulation(limit, protocol(start), length_of_length(start), start);
     }
     Seen::Damaged
@@ -216,7 +221,7 @@ pub fn read_length(limit: usize, start: &[u8]) -> Seen
 pub fn is_idle(start: &[u8]) -> bool
     ensures { λ r. ⌜ r ≡ is-idle (now (start .entry)) ⌝ }
 {
-    if version(start) == 0 {
+    if version(start) == SPACE_VERSION {
         return octets::field(octets::number2(start, 0) as u64, APID) == IDLE_APID;
     }
     protocol(start) == IDLE_PROTOCOL
@@ -227,7 +232,7 @@ fn tell(start: &[u8], total: usize) -> Header
     requires { ⌜ OfAKind (now start) ⌝ }
     ensures { λ r. ⌜ answer r ≡ told (now (start .entry)) (whole total) ⌝ }
 {
-    if version(start) == 0 {
+    if version(start) == SPACE_VERSION {
         return Header::Whole {
             kind: Kind::Space,
             key: apid(start),

@@ -5,6 +5,7 @@ ghost use Rattle.octets.specs.Basics.{first};
 ghost use Rattle.packets.specs.Wrap.{length-of-length-for, wrapped-total, wrap-in-range, wrap-rows, wrapping, wraps, extension-of, reserved-of, unwrap-rows, unwrapping, unwraps, unit-part};
 use super::EXTENDED_PROTOCOL;
 use super::EXTENSION;
+use super::SPACE_VERSION;
 use super::formed;
 use super::front::write_front;
 use super::header_length;
@@ -140,7 +141,7 @@ fn unwrap_refusal(limit: usize, p: &[u8]) -> u8
     if !in_range(limit) {
         return refusals::SETTING;
     }
-    if !formed(limit, p) | (version(p) == 0) {
+    if !formed(limit, p) | (version(p) == SPACE_VERSION) {
         return refusals::PACKET;
     }
     if ((extension(p) != 0) & (protocol(p) != EXTENDED_PROTOCOL)) | (reserved(p) != 0) {

@@ -27,4 +27,4 @@ returns c = octet c
 
 pub first-octet-spec : {M : Type 1} → statement M
 first-octet-spec =
-    tie.close (tie.spec (λ c κs. search needs) (λ c κs. search needs) (λ c κs. search needs) cast-result returns)
+    tie.close (tie.spec (λ c. search needs) (λ c κs. search needs) (λ c κs. search needs) (λ c κs. search needs) cast-result returns)
