@@ -2,12 +2,13 @@
 ghost use mathlib.Core.Path.{_≡_};
 ghost use Prim.Native.Nat.{_≤_};
 ghost use lib.ListN.{length};
+use octets::limits;
 
 // As many octets as the longest packet has, all the same.
-pub(crate) fn longest(octet: u8) -> [u8; 65542]
+pub(crate) fn longest(octet: u8) -> [u8; limits::MOST]
     ensures { λ r. ⌜ 65542 ≡ length r ⌝ }
 {
-    [octet; 65542]
+    [octet; limits::MOST]
 }
 
 // Where the line ends that `at` lies in.
