@@ -138,7 +138,7 @@ module _ (s : BitSettings) (x : Reader) (f : List ℕ) (octets : AllOctets f) (d
   pointer-short = field-lt (zone-head (s .link) f) 0 14
 
   bits-inside : n ≤ most-bits s
-  bits-inside = valid-most s bounds pointer pointer-short (sound .header .pointer-used)
+  bits-inside = valid-most s bounds pointer pointer-short (sound .pointer-used)
 
   length-zone-of : length (bit-zone-of s f) ≡ s .width
   unfolding bit-zone-of bit-frame-length
@@ -166,7 +166,7 @@ module _ (s : BitSettings) (x : Reader) (f : List ℕ) (octets : AllOctets f) (d
   head-of =
       ap (take 8) (bit-frame-again s f bounds octets (clear .sound))
       ∙ take-at (headers (s .link) (bit-count s f) (bit-replay s f) (bit-pointer-word pointer)) (bit-zone-of s f) 8 (length-headers (s .link) _ _ _)
-      ∙ ap (λ (p : ℕ). headers (s .link) (bit-count s f) (bit-replay s f) (bit-pointer-word p)) (sym (pointer-again s bounds pointer pointer-short (sound .header .pointer-used)))
+      ∙ ap (λ (p : ℕ). headers (s .link) (bit-count s f) (bit-replay s f) (bit-pointer-word p)) (sym (pointer-again s bounds pointer pointer-short (sound .pointer-used)))
 
   again-of : (i : ℕ) → i < n → bit-at (zone-with s n (leading-octets s n f)) i ≡ bit-at (bit-zone-of s f) i
   again-of i h =

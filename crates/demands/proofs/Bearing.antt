@@ -10,7 +10,7 @@ use lib.ListN.{length}
 use borrow.Author.Tests.{eq-eqb}
 use Rattle.octets.specs.Basics.{first}
 use Rattle.frames.specs.Link.{primary, header-rows, count-width, next-count}
-use Rattle.frames.specs.Frame.{frame-length, version, spacecraft, channel, count, spare, zone-spare, pointer, frame-rows}
+use Rattle.frames.specs.Frame.{packet-shape, frame-length, version, spacecraft, channel, count, spare, zone-spare, pointer, unused, frame-rows}
 use Rattle.frames.specs.declared.Settings.{Settings}
 use Rattle.frames.proofs.Framed.{Used}
 use Rattle.frames.proofs.Rows.{sound-frame}
@@ -22,15 +22,15 @@ use Rattle.demands.specs.Carries.{Bears, Rising}
 -- ---- the header
 
 pub rows-bear : (s : Settings) (f : List ℕ) → first (frame-rows s f) ≡ 0 → Bears s f
-unfolding Bears
+unfolding Bears frame-rows frame-length
 rows-bear s f e =
-    let r = sound-frame s f e in
+    let r = sound-frame (packet-shape s) f e in
     let h = r .header in
     (r .length-right, h .version-right, h .spacecraft-right, h .channel-right, h .spare-clear, h .zone-spare-clear)
 
 -- and back, where the pointer is one that is used
 pub bears-rows : (s : Settings) (f : List ℕ) → Bears s f → Used s (pointer s f) → first (frame-rows s f) ≡ 0
-unfolding frame-rows header-rows first Bears
+unfolding frame-rows frame-length unused header-rows first Bears
 bears-rows s f (e₁, e₂, e₃, e₄, e₅, e₆) used =
     rw (
       eq-eqb (length f) (frame-length s) e₁,

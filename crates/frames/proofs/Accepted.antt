@@ -6,7 +6,6 @@ use mathlib.Core.Bool.{true, false}
 use Prim.Native.Nat.{ℕ, _<_, _^_}
 use native.Mathlib.Omega.{arith}
 use lib.ListN.{length, drop, length-drop}
-use lib.Seq.{take-all}
 use lib.Dec.{leb, eqb}
 use borrow.Author.Tests.{leb-false, eqb-true, eqb-false}
 use Rattle.octets.specs.Basics.{first}
@@ -14,15 +13,16 @@ use Rattle.octets.proofs.Choices.{refusal-kept}
 use Rattle.octets.proofs.Fields.{field-lt}
 use Rattle.octets.proofs.Tests.{test}
 use Rattle.frames.specs.Link.{zone-at, zone-head}
-use Rattle.frames.specs.Frame.{idle-zone, no-start, in-range, frame-length, frame-rows, zone-of, count, replay, pointer, unused, heading-rows, heading, heading-of}
+use Rattle.frames.specs.Frame.{idle-zone, no-start, in-range, packet-shape, frame-length, frame-rows, zone-of, count, replay, pointer, unused, heading-rows, heading, heading-of}
 use Rattle.frames.specs.declared.Settings.{Settings}
 use Rattle.frames.specs.declared.Heading.{Heading}
+use Rattle.frames.proofs.ReadBack.{shape-zone-is}
 use Rattle.frames.proofs.Rows.{sound-frame}
 
 -- the zone of a frame of the right length is all that follows its head
 pub zone-is : (s : Settings) (f : List ℕ) → length f ≡ frame-length s → zone-of s f ≡ drop (zone-at (s .link)) f
 unfolding zone-of frame-length
-zone-is s f e = take-all (s .zone) (drop (zone-at (s .link)) f) (simp length-drop (omega arith))
+zone-is s = shape-zone-is (packet-shape s)
 
 pub length-zone : (s : Settings) (f : List ℕ) → length f ≡ frame-length s → length (zone-of s f) ≡ s .zone
 unfolding frame-length
@@ -49,8 +49,9 @@ which-pointer s f e =
     (λ t. offset (leb-false (s .zone) p t))
 
 pub accepted : (s : Settings) (f : List ℕ) → first (frame-rows s f) ≡ 0 → Accepted s f
+unfolding frame-rows frame-length unused
 accepted s f e =
-    let sound = sound-frame s f e in
+    let sound = sound-frame (packet-shape s) f e in
     record { right-length = sound .length-right; pointed = which-pointer s f (sound .header .pointer-used) }
 
 -- its header says what stands in it, where the settings are in range

@@ -8,15 +8,14 @@ use native.Mathlib.Omega.{arith}
 use lib.ListN.{length, take, length-append}
 use lib.Seq.{take-at, drop-at, take-all}
 use lib.Dec.{leb}
-use borrow.Author.Tests.{lt-leb, eq-eqb}
+use borrow.Author.Tests.{lt-leb}
 use Rattle.octets.specs.Basics.{first}
 use Rattle.octets.proofs.Choices.{and-false}
 use Rattle.frames.specs.Link.{count-width}
-use Rattle.frames.specs.Frame.{in-range, frame-length, frame-rows, zone-of, count, zone-spare-place, pointer-place, pointer, unused, head}
+use Rattle.frames.specs.Frame.{in-range, packet-shape, frame-length, frame-rows, zone-of, count, zone-spare-place, pointer-place, pointer, unused, head}
 use Rattle.frames.specs.Statements.{HeadersBack}
 use Rattle.frames.specs.declared.Settings.{Settings}
-use Rattle.frames.proofs.ReadBack.{length-head, head-back, back-sound}
-use Rattle.frames.proofs.Rows.{header-taken}
+use Rattle.frames.proofs.ReadBack.{length-head, head-back, shape-taken}
 
 -- a frame of the channel with this count, this pointer and this zone
 unfoldable pub framed : Settings → ℕ → ℕ → List ℕ → List ℕ
@@ -60,8 +59,8 @@ module _ (s : Settings) (c p : ℕ) (z : List ℕ) (ok : in-range s ≡ true) (w
   zoned = rw (drop-at (head s c p) z 8 (length-head s c p)) (take-all (s .zone) z (omega arith))
 
   unrefused : first (frame-rows s (framed s c p z)) ≡ 0
-  unfolding frame-rows first
-  unrefused = rw (eq-eqb _ _ long) (header-taken (s .link) _ _ _ (back-sound (unused s) back used))
+  unfolding frame-rows frame-length unused
+  unrefused = shape-taken (packet-shape s) back long used
 
   pub framed-is : Framed s c p z (framed s c p z)
   framed-is = record {

@@ -1,21 +1,48 @@
--- What a header says, with the numbers as the code reads them: for frames of any length that has room for both headers, and any
--- fields of the zone's header.
+-- What a header says, with the numbers as the code reads them.
 -- Assumes nothing.
-use mathlib.Core.Path.{_≡_, refl}
-use mathlib.Core.List.{List, _∷_}
-use mathlib.Core.Bool.{Bool, true, not}
-use Prim.Native.Nat.{ℕ, _≤_}
+use mathlib.Core.Path.{_≡_, refl, sym, _∙_}
+use mathlib.Core.List.{List}
+use mathlib.Core.Bool.{true}
+use Prim.Native.Nat.{ℕ, suc, _-_, _^_, _≤_, _<_}
+use native.Mathlib.Nat.{zero-mod, le-refl}
+use lib.Pow.{pow-mono}
 use native.Mathlib.Omega.{arith}
 use lib.ListN.{length}
-use lib.Dec.{eqb}
-use borrow.Author.Tests.{eqb-true}
-use Rattle.octets.specs.Basics.{read, number-at, Row, row, first}
-use Rattle.octets.specs.declared.Place.{Place}
+use lib.Dec.{ltb, eqb}
+use borrow.Author.Tests.{lt-ltb, le-ltb, eq-eqb, ne-eqb, eqb-true}
+use Rattle.octets.specs.Basics.{field, placed, number-at, first}
+use Rattle.octets.proofs.Choices.{split}
+use Rattle.octets.proofs.Fields.{above-past, field-rest, field-lt, foot-lt, foot-only}
 use Rattle.octets.proofs.Numbers.{number-within}
-use Rattle.frames.specs.Link.{primary, zone-head, header-rows, count-place, replay-place}
-use Rattle.frames.specs.Frame.{heading-of}
+use Rattle.frames.specs.Link.{primary, zone-head}
+use Rattle.frames.specs.Shape.{shape-length, both-rows, shape-rows, heading-by, shape-heading}
 use Rattle.frames.specs.declared.Link.{Link}
-use Rattle.frames.specs.declared.Heading.{Heading}
+use Rattle.frames.specs.declared.shape.Shape.{Shape}
+
+-- a number is its own foot where it has no bit above it
+pub foot-fits : (n width : ℕ) → eqb (field n 0 width) n ≡ ltb n (2 ^ width)
+foot-fits n width =
+    split (suc n) (2 ^ width)
+    (λ h. eq-eqb _ _ (field-rest width n 0 width h (le-refl width) ∙ omega arith) ∙ sym (lt-ltb n (2 ^ width) h))
+    (λ h. ne-eqb (field n 0 width) n (λ e. omega (arith, field-lt n 0 width)) ∙ sym (le-ltb n (2 ^ width) (omega arith)))
+
+none-above : (n width more : ℕ) → n < 2 ^ width → field n width more ≡ 0
+unfolding field
+none-above n width more h = rw (above-past width n width h (le-refl width)) (zero-mod (2 ^ more))
+
+foot-alone : (n width : ℕ) → n < 2 ^ 16 → width ≤ 16 → field n width (16 - width) ≡ 0 → n < 2 ^ width
+foot-alone n width small narrow e =
+    let below : placed 0 0 width (field n 0 width) < 2 ^ width = foot-lt width (field n 0 width) (omega arith) width (le-refl width) in
+    omega (arith, foot-only 16 width n (omega arith) narrow small e)
+
+-- and the spare bits of a zone's header are those above the pointer
+pub spare-fits : (zone width : ℕ) → zone < 2 ^ 16 → eqb (field zone width (16 - width)) 0 ≡ ltb zone (2 ^ width)
+spare-fits zone width small =
+    split (suc zone) (2 ^ width) (λ h. eq-eqb _ _ (none-above zone width (16 - width) h) ∙ sym (lt-ltb zone (2 ^ width) h))
+    (λ h. ne-eqb (field zone width (16 - width)) 0 (λ e. omega (arith, foot-alone zone width small (narrow h) e)) ∙ sym (le-ltb zone (2 ^ width) (omega arith)))
+  where
+    narrow : 2 ^ width < suc zone → width ≤ 16
+    narrow h = split width 16 (λ k. k) (λ k. let wide : 2 ^ 16 ≤ 2 ^ width = pow-mono {i = 16} {j = width} (omega arith) in absurd (omega arith))
 
 -- a frame with room for both headers has both
 module _ (l : Link) (f : List ℕ) (room : 8 ≤ length f) where
@@ -27,19 +54,10 @@ module _ (l : Link) (f : List ℕ) (room : 8 ≤ length f) where
   unfolding zone-head
   zone-head-at = number-within 2 6 f room
 
--- the rows and the heading by both headers' numbers
-module _ (l : Link) (spare pointer : Place) (unused : ℕ → Bool) where
-  abbrev pub rows-by : ℕ → ℕ → List Row
-  rows-by head zone = header-rows l head (read spare zone) (unused (read pointer zone))
-
-  abbrev pub heading-by : ℕ → ℕ → ℕ → Heading
-  heading-by n head zone = heading-of n (read count-place head) (read replay-place head) (read pointer zone)
-
-  pub heading-reads : (f : List ℕ) (len : ℕ) {settled : Bool} {n head zone : ℕ} → 8 ≤ len → settled ≡ true → eqb (length f) len ≡ true
-      → head ≡ number-at 6 0 f → zone ≡ number-at 2 6 f → n ≡ first (rows-by head zone)
-      → heading-by n head zone
-      ≡ heading-by (first (row 1 (not settled) ∷ row 3 (not (eqb (length f) len)) ∷ rows-by (primary l f) (zone-head l f))) (primary l f) (zone-head l f)
-  unfolding first
-  heading-reads f len k i e h z r =
-      let room : 8 ≤ length f = omega (arith, eqb-true (length f) len e) in
-      rw (i, e, r, h, z, primary-at l f room, zone-head-at l f room) refl
+-- the heading of a frame of the right length, by both headers' numbers
+pub heading-reads : (h : Shape) (f : List ℕ) {head zone : ℕ} → eqb (length f) (shape-length h) ≡ true → head ≡ number-at 6 0 f → zone ≡ number-at 2 6 f
+    → heading-by h (first (both-rows h head zone)) head zone ≡ shape-heading h (shape-rows h f) f
+unfolding first
+heading-reads h f e p z =
+    let room : 8 ≤ length f = omega (arith, eqb-true (length f) (shape-length h) e) in
+    rw (e, p, z, primary-at (h .link) f room, zone-head-at (h .link) f room) refl

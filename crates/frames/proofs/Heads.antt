@@ -2,17 +2,19 @@
 -- Assumes nothing.
 use mathlib.Core.Path.{_≡_, refl, subst}
 use mathlib.Core.List.{List, _++_}
-use mathlib.Core.Bool.{Bool, true, false, not}
+use mathlib.Core.Bool.{Bool, true, false}
 use Prim.Native.Nat.{ℕ, _+_, _^_, _≤_, _<_}
 use native.Mathlib.Omega.{arith}
 use lib.ListN.{length}
 use borrow.Author.Tests.{lt-ltb, le-ltb}
-use Rattle.octets.specs.Basics.{and, octets, over, laid, first}
+use Rattle.octets.specs.Basics.{octets, over, laid, first}
 use Rattle.octets.proofs.Written.{laid-within, length-octets, length-over, over-over}
 use Rattle.frames.specs.Link.{head-word, headers, written-rows, count-width}
-use Rattle.frames.specs.Frame.{in-range, unused, head-rows}
+use Rattle.frames.specs.Shape.{shape-unused, shape-head-rows}
+use Rattle.frames.specs.Frame.{in-range, packet-shape, unused, head-rows}
 use Rattle.frames.specs.declared.Link.{Link}
 use Rattle.frames.specs.declared.Settings.{Settings}
+use Rattle.frames.specs.declared.shape.Shape.{Shape}
 
 -- two parts laid one after the other
 two-parts : (d a b : List ℕ) (n m : ℕ) → length a ≡ n → length b ≡ m → n + m ≤ length d → laid (laid d 0 a) n b ≡ over d 0 (a ++ b)
@@ -28,12 +30,13 @@ headers-laid l c r z w d e f h q t u =
     rw (u, t, q) (two-parts d (octets 6 (head-word l c r)) (octets 2 z) 6 2 (length-octets 6 (head-word l c r)) (length-octets 2 z) h)
 
 -- headers in range, with room for them, are not refused
-pub written-taken : (l : Link) (c : ℕ) {settled fits unused : Bool} (d : List ℕ) → settled ≡ true → c < 2 ^ count-width l → fits ≡ true → unused ≡ false
-    → 8 ≤ length d → first (written-rows l settled c (and fits (not unused)) d) ≡ 0
+pub written-taken : (h : Shape) (c p : ℕ) (d : List ℕ) {settled : Bool} → settled ≡ true → c < 2 ^ count-width (h .link) → p < 2 ^ h .width
+    → shape-unused h p ≡ false → 8 ≤ length d → first (shape-head-rows settled h c p d) ≡ 0
 unfolding first written-rows
-written-taken l c d e h k u r = rw (e, lt-ltb c (2 ^ count-width l) h, k, u, le-ltb (length d) 8 r) refl
+written-taken h c p d e k short u r =
+    rw (e, lt-ltb c (2 ^ count-width (h .link)) k, lt-ltb p (2 ^ h .width) short, u, le-ltb (length d) 8 r) refl
 
 pub none-refused : (s : Settings) (c p : ℕ) (d : List ℕ) → in-range s ≡ true → c < 2 ^ count-width (s .link) → p < 2 ^ 11 → unused s p ≡ false
     → 8 ≤ length d → first (head-rows s c p d) ≡ 0
-unfolding head-rows
-none-refused s c p d e h k u r = written-taken (s .link) c d e h (lt-ltb p (2 ^ 11) k) u r
+unfolding head-rows unused
+none-refused s c p d = written-taken (packet-shape s) c p d

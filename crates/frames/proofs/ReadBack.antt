@@ -8,18 +8,21 @@ use native.Mathlib.Nat.{mod-eq-of-lt, mod-one}
 use native.Mathlib.Omega.{arith}
 use lib.Dec.{lit<}
 use lib.ListN.{length, take, drop, length-append, length-drop, take-append-drop}
+use borrow.Author.Tests.{eq-eqb}
 use lib.Seq.{take-at, drop-at, take-add, take-all}
 use Rattle.octets.specs.Basics.{AllOctets, field, placed, number, octets, read, write, first}
 use Rattle.octets.specs.declared.Place.{Place}
 use Rattle.octets.proofs.Fields.{placed-read, placed-below, placed-lt, placed-within, field-lt, agree-on, foot-read, foot-above, foot-lt, foot-only}
 use Rattle.octets.proofs.Numbers.{number-octets, octets-again, run-lt}
 use Rattle.octets.proofs.Written.{length-octets}
-use Rattle.frames.specs.Link.{head-word, headers, primary, zone-head, version-place, spacecraft-place, channel-place, count-place, replay-place, spare-place, count-width}
-use Rattle.frames.specs.Frame.{in-range, frame-length, frame-rows, zone-of, count, replay, zone-spare-place, pointer, pointer-place, pointer-word, head}
+use Rattle.frames.specs.Link.{head-word, headers, zone-at, primary, zone-head, version-place, spacecraft-place, channel-place, count-place, replay-place, spare-place, count-width}
+use Rattle.frames.specs.Shape.{shape-length, shape-zone, pointer-at, spare-above, shape-unused, shape-rows, word-of}
+use Rattle.frames.specs.Frame.{in-range, packet-shape, frame-rows, zone-of, count, replay, zone-spare-place, pointer, pointer-place, pointer-word, head}
 use Rattle.frames.specs.Statements.{HeadersBack}
 use Rattle.frames.specs.declared.Link.{Link}
 use Rattle.frames.specs.declared.Settings.{Settings}
-use Rattle.frames.proofs.Rows.{SoundHeader, sound-frame}
+use Rattle.frames.specs.declared.shape.Shape.{Shape}
+use Rattle.frames.proofs.Rows.{SoundHeader, header-taken, sound-frame}
 use Rattle.frames.proofs.Settled.{Linked, settled}
 use Rattle.frames.proofs.Wheel.{count-lt}
 
@@ -213,6 +216,33 @@ headers-again l f width spare unused bounds o room narrow h clear =
     foot-only 16 width (zone-head l f) (omega arith) narrow (zone-head-lt l f o room) clear in
     frame-parts l f o room ∙ cc (w, z)
 
+-- ---- frames of a shape
+
+-- the zone of a frame of the right length is all that follows its headers
+pub shape-zone-is : (h : Shape) (f : List ℕ) → length f ≡ shape-length h → shape-zone h f ≡ drop (zone-at (h .link)) f
+shape-zone-is h f e = take-all (h .size) (drop (zone-at (h .link)) f) (simp length-drop (omega arith))
+
+-- a frame of the right length whose headers are read back is not refused, where its pointer is one that is used
+pub shape-taken : (h : Shape) {c p : ℕ} {f : List ℕ} → HeadersBack (h .link) (spare-above (h .width)) (pointer-at (h .width)) c p f
+    → length f ≡ shape-length h → shape-unused h p ≡ false → first (shape-rows h f) ≡ 0
+unfolding first
+shape-taken h back long used = rw (eq-eqb _ _ long) (header-taken (h .link) _ _ _ (back-sound (shape-unused h) back used))
+
+-- the headers of a frame, written again from what is read
+abbrev headers-of : Shape → List ℕ → List ℕ
+headers-of h f =
+    let head : ℕ = primary (h .link) f in
+    headers (h .link) (read count-place head) (read replay-place head) (word-of (h .width) (read (pointer-at (h .width)) (zone-head (h .link) f)))
+
+-- a frame that is not refused is these and its zone
+pub shape-again : (h : Shape) (f : List ℕ) → Linked (h .link) → h .width ≤ 16 → AllOctets f → first (shape-rows h f) ≡ 0
+    → f ≡ headers-of h f ++ shape-zone h f
+shape-again h f bounds narrow o e =
+    let sound = sound-frame h f e in
+    let long : length f ≡ h .size + 8 = sound .length-right in
+    headers-again (h .link) f (h .width) _ _ bounds o (omega arith) narrow (sound .header) (sound .header .zone-spare-clear)
+    ∙ ap (headers-of h f ++_) (sym (shape-zone-is h f long))
+
 -- ---- packet channels
 
 pub length-head : (s : Settings) (c p : ℕ) → length (head s c p) ≡ 8
@@ -222,15 +252,9 @@ length-head s c p = length-headers (s .link) c 0 (pointer-word p)
 pub head-back : (s : Settings) (c p : ℕ) (f : List ℕ) → in-range s ≡ true → c < 2 ^ count-width (s .link) → p < 2 ^ 11
     → take 8 f ≡ head s c p → HeadersBack (s .link) zone-spare-place pointer-place c p f
 unfolding head
-head-back s c p f ok wheel short headed = headers-back (s .link) 11 c p f (settled s ok .on-link) (omega arith) wheel short headed
+head-back s c p f ok = headers-back (s .link) 11 c p f (settled s ok .on-link) (omega arith)
 
--- a frame that is not refused is its headers, written again from what is read, and its zone
 pub frame-again : (s : Settings) (f : List ℕ) → in-range s ≡ true → AllOctets f → first (frame-rows s f) ≡ 0
     → f ≡ headers (s .link) (count s f) (replay s f) (pointer-word (pointer s f)) ++ zone-of s f
-unfolding zone-of frame-length
-frame-again s f e o r =
-    let sound = sound-frame s f r in
-    let long : length f ≡ s .zone + 8 = sound .length-right in
-    let all : take (s .zone) (drop 8 f) ≡ drop 8 f = take-all (s .zone) (drop 8 f) (rw length-drop (omega arith)) in
-    headers-again (s .link) f 11 _ _ (settled s e .on-link) o (omega arith) (omega arith) (sound .header) (sound .header .zone-spare-clear)
-    ∙ ap (λ (z : List ℕ). headers (s .link) (count s f) (replay s f) (pointer-word (pointer s f)) ++ z) (sym all)
+unfolding frame-rows zone-of
+frame-again s f ok = shape-again (packet-shape s) f (settled s ok .on-link) (omega arith)

@@ -8,10 +8,10 @@ use lib.ListN.{length}
 use borrow.Author.Tests.{eq-eqb, eqb-true, not-false}
 use Rattle.octets.specs.Basics.{pick, read, Row, row, first}
 use Rattle.octets.proofs.Choices.{and-true, none-holds}
-use Rattle.frames.specs.Link.{primary, header-rows, version-place, spacecraft-place, channel-place, spare-place}
-use Rattle.frames.specs.Frame.{frame-length, frame-rows, zone-spare, pointer, unused}
+use Rattle.frames.specs.Link.{primary, zone-head, header-rows, version-place, spacecraft-place, channel-place, spare-place}
+use Rattle.frames.specs.Shape.{shape-length, spare-above, pointer-at, shape-unused, shape-rows}
 use Rattle.frames.specs.declared.Link.{Link}
-use Rattle.frames.specs.declared.Settings.{Settings}
+use Rattle.frames.specs.declared.shape.Shape.{Shape}
 
 -- where the row of the settings stands above, it need not stand again
 pub settled-once : (settled : Bool) (rows : List Row) (between : ℕ → ℕ)
@@ -53,12 +53,16 @@ unfolding first header-rows
 header-taken l head spare unused h =
     rw (eq-eqb _ _ (h .version-right), eq-eqb _ _ (h .spacecraft-right), eq-eqb _ _ (h .channel-right), eq-eqb _ _ (h .spare-clear), eq-eqb _ _ (h .zone-spare-clear), h .pointer-used) refl
 
-pub record SoundFrame (s : Settings) (f : List ℕ) : Type 0 where
-  pub length-right : length f ≡ frame-length s
-  pub header : SoundHeader (s .link) (primary (s .link) f) (zone-spare s f) (unused s (pointer s f))
+-- the fields of the zone's header, over the shape
+abbrev pub SoundFields : Shape → ℕ → ℕ → Type 0
+SoundFields h head zone =
+    SoundHeader (h .link) head (read (spare-above (h .width)) zone) (shape-unused h (read (pointer-at (h .width)) zone))
 
-pub sound-frame : (s : Settings) (f : List ℕ) → first (frame-rows s f) ≡ 0 → SoundFrame s f
-unfolding frame-rows
-sound-frame s f e =
+pub record SoundFrame (h : Shape) (f : List ℕ) : Type 0 where
+  pub length-right : length f ≡ shape-length h
+  pub header : SoundFields h (primary (h .link) f) (zone-head (h .link) f)
+
+pub sound-frame : (h : Shape) (f : List ℕ) → first (shape-rows h f) ≡ 0 → SoundFrame h f
+sound-frame h f e =
     let n = none-holds 2 _ _ e in
     record { length-right = eqb-true _ _ (not-false _ (n .0)); header = sound-header _ _ _ _ (n .1) }

@@ -1,14 +1,16 @@
 -- The frame of a packet channel: its settings, its header, its zone, and what it is refused for.
-use Prim.Native.Nat.{ℕ, _+_, _^_}
+use Prim.Native.Nat.{ℕ}
 use mathlib.Core.List.{List, _∷_}
 use mathlib.Core.Bool.{Bool, not}
-use lib.ListN.{length, take, drop}
-use lib.Dec.{leb, ltb, eqb}
-use Rattle.octets.specs.Basics.{pick, and, read, write, Row, row, first}
+use lib.Dec.{leb}
+use Rattle.octets.specs.Basics.{and, read, Row, row}
 use Rattle.octets.specs.declared.Place.{Place}
-use Rattle.frames.specs.Link.{link-in-range, zone-at, primary, zone-head, version-place, spacecraft-place, channel-place, count-place, replay-place, spare-place, header-rows, written-rows, headers}
+use Rattle.frames.specs.Link.{link-in-range, primary, zone-head, version-place, spacecraft-place, channel-place, count-place, replay-place, spare-place}
+use Rattle.frames.specs.Shape.{shape-length, shape-zone, pointer-at, spare-above, shape-unused, shape-rows, shape-heading, word-of, shape-head, shape-head-rows}
+unfoldable pub use Rattle.frames.specs.Shape.{no-heading, heading-of}
 use Rattle.frames.specs.declared.Settings.{Settings}
 use Rattle.frames.specs.declared.Heading.{Heading}
+use Rattle.frames.specs.declared.shape.Shape.{Shape}
 
 -- the pointers that are no offset
 abbrev pub idle-zone : ℕ
@@ -29,11 +31,23 @@ in-range s =
     (and (leb (s .zone) 2046)
     (and (leb (s .zone) (s .limit)) (and (leb 7 (s .limit)) (leb (s .limit) 65542)))))
 
+-- spare 5 bits, pointer 11 bits
+abbrev pub pointer-place : Place
+pointer-place = pointer-at 11
+
+abbrev pub zone-spare-place : Place
+zone-spare-place = spare-above 11
+
+-- a zone of Z octets; a pointer from Z to 2,045 is not used
+abbrev pub packet-shape : Settings → Shape
+packet-shape s = record { link = s .link; size = s .zone; width = 11; beyond = s .zone; last = 2045 }
+
+-- Z+8
 unfoldable pub frame-length : Settings → ℕ
-frame-length s = s .zone + zone-at (s .link)
+frame-length s = shape-length (packet-shape s)
 
 unfoldable pub zone-of : Settings → List ℕ → List ℕ
-zone-of s f = take (s .zone) (drop (zone-at (s .link)) f)
+zone-of s f = shape-zone (packet-shape s) f
 
 abbrev pub version : Settings → List ℕ → ℕ
 version s f = read version-place (primary (s .link) f)
@@ -53,55 +67,35 @@ count s f = read count-place (primary (s .link) f)
 abbrev pub replay : Settings → List ℕ → ℕ
 replay s f = read replay-place (primary (s .link) f)
 
--- the fields of the zone's header
-abbrev pub zone-spare-place : Place
-zone-spare-place = record { below = 11; width = 5 }
-
-abbrev pub pointer-place : Place
-pointer-place = record { below = 0; width = 11 }
-
 abbrev pub zone-spare : Settings → List ℕ → ℕ
 zone-spare s f = read zone-spare-place (zone-head (s .link) f)
 
 abbrev pub pointer : Settings → List ℕ → ℕ
 pointer s f = read pointer-place (zone-head (s .link) f)
 
--- a pointer that is not used: from Z to 2,045
 unfoldable pub unused : Settings → ℕ → Bool
-unused s p = and (leb (s .zone) p) (leb p 2045)
+unused s p = shape-unused (packet-shape s) p
 
 -- what a frame to be read is refused for, in order
 unfoldable pub frame-rows : Settings → List ℕ → List Row
-frame-rows s f =
-    row 3 (not (eqb (length f) (frame-length s)))
-    ∷ header-rows (s .link) (primary (s .link) f) (zone-spare s f) (unused s (pointer s f))
+frame-rows s f = shape-rows (packet-shape s) f
 
 -- the same of a header that is read, with the settings before all else
 unfoldable pub heading-rows : Settings → List ℕ → List Row
 heading-rows s f = row 1 (not (in-range s)) ∷ frame-rows s f
 
--- a refusal alone
-abbrev pub no-heading : ℕ → Heading
-no-heading refusal = record { refusal = refusal; count = 0; replay = 0; pointer = 0 }
-
 -- what a header says, where it is not refused; else the refusal alone
-unfoldable pub heading-of : ℕ → ℕ → ℕ → ℕ → Heading
-heading-of refusal c r p =
-    pick (eqb refusal 0)
-    (record { refusal = 0; count = c; replay = r; pointer = p })
-    (no-heading refusal)
-
 unfoldable pub heading : Settings → List ℕ → Heading
-heading s f = heading-of (first (heading-rows s f)) (count s f) (replay s f) (pointer s f)
+heading s f = shape-heading (packet-shape s) (heading-rows s f) f
 
 -- the zone's header with a pointer
 abbrev pub pointer-word : ℕ → ℕ
-pointer-word p = write pointer-place p 0
+pointer-word p = word-of 11 p
 
 -- both headers of the frame with this count and pointer, as they are written: the replay flag is 0
 unfoldable pub head : Settings → ℕ → ℕ → List ℕ
-head s c p = headers (s .link) c 0 (pointer-word p)
+head s c p = shape-head (packet-shape s) c p
 
--- what a header to be written is refused for: its pointer fits, and reading takes it
+-- what a header to be written is refused for
 unfoldable pub head-rows : Settings → ℕ → ℕ → List ℕ → List Row
-head-rows s c p buffer = written-rows (s .link) (in-range s) c (and (ltb p (2 ^ 11)) (not (unused s p))) buffer
+head-rows s c p buffer = shape-head-rows (in-range s) (packet-shape s) c p buffer

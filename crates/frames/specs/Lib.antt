@@ -1,4 +1,5 @@
 pub mod Link
+pub mod Shape
 pub mod Frame
 pub mod BitFrame
 pub mod Statements

@@ -1,16 +1,14 @@
 // The frames of a bitstream channel: its settings, and a frame's header read and written.
 ghost use mathlib.Core.Path.{_≡_};
-ghost use Prim.Native.Nat.{_^_, _<_};
+ghost use mathlib.Core.Bool.{true};
 ghost use lib.Dec.{ltb, eqb};
 ghost use Rattle.octets.specs.Basics.{pick, first, over};
-ghost use Rattle.frames.specs.Frame.{frame-length};
-ghost use Rattle.frames.specs.BitFrame.{bits-in-range, bit-frame-length, bit-unused, bit-heading, bit-head, bit-head-rows};
+ghost use Rattle.frames.specs.BitFrame.{bits-in-range, bit-frame-length, bits-shape, bit-heading, bit-head, bit-head-rows};
 use super::Heading;
 use super::Link;
-use super::REFUSED_LENGTH;
-use super::REFUSED_SETTING;
-use super::Settings;
-use octets::Place;
+use super::shape;
+use super::shape::Shape;
+use octets::refusals;
 
 // The settings of one bitstream channel: W, and the octet that fills what no bit takes.
 pub struct BitSettings {
@@ -27,18 +25,11 @@ pub const ALL_VALID: u16 = 16383;
 // A zone has so many octets at most.
 const MOST_WIDTH: usize = 2047;
 
-// So many numbers fit a pointer's field.
-const POINTERS: u16 = 16384;
+// The bits of the pointer.
+const POINTER_WIDTH: u32 = 14;
 
-const ZONE_SPARE: Place = Place {
-    below: 14,
-    width: 2,
-};
-
-const POINTER: Place = Place {
-    below: 0,
-    width: 14,
-};
+// The last pointer that is not used.
+const LAST_UNUSED: u64 = 16381;
 
 pub fn in_range(s: BitSettings) -> bool
     ensures { λ r. ⌜ r ≡ bits-in-range s ⌝ }
@@ -46,16 +37,18 @@ pub fn in_range(s: BitSettings) -> bool
     super::link_in_range(s.link) & ((1 <= s.width) & (s.width <= MOST_WIDTH))
 }
 
-// A packet channel whose frames are as long: its zone has W octets.
-fn as_long(s: BitSettings) -> Settings
-    ensures { λ r. ⌜ frame-length r ≡ bit-frame-length s ⌝ }
+// The shape of a bitstream channel's frames: the first pointer beyond the zone is 8W-1.
+fn shape_of(s: BitSettings) -> Shape
+    requires { ⌜ bits-in-range s ≡ true ⌝ }
+    ensures { λ r. ⌜ r ≡ bits-shape s ⌝ }
 {
     let link = s.link;
-    Settings {
+    Shape {
         link,
-        zone: s.width,
-        limit: s.width,
-        fill: s.fill,
+        size: s.width,
+        width: POINTER_WIDTH,
+        beyond: 8 * s.width as u64 - 1,
+        last: LAST_UNUSED,
     }
 }
 
@@ -63,23 +56,14 @@ fn as_long(s: BitSettings) -> Settings
 pub fn has_length(s: BitSettings, len: usize) -> bool
     ensures { λ r. ⌜ r ≡ eqb len (bit-frame-length s) ⌝ }
 {
-    super::has_length(as_long(s), len)
+    shape::has_length(s.width, len)
 }
 
 // Whether so many octets are less than a frame of these settings.
 pub fn is_short(s: BitSettings, len: usize) -> bool
     ensures { λ r. ⌜ r ≡ ltb len (bit-frame-length s) ⌝ }
 {
-    super::is_short(as_long(s), len)
-}
-
-// Whether a pointer is one that is not used: from 8W-1, by a quotient that stays within the word for every W, to the last before
-// those that are no place.
-fn unused(s: BitSettings, pointer: u64) -> bool
-    requires { ⌜ pointer < 2 ^ 16 ⌝ }
-    ensures { λ r. ⌜ r ≡ bit-unused s pointer ⌝ }
-{
-    (s.width as u64 <= (pointer + 1) / 8) & (pointer < FILL_ONLY as u64)
+    shape::is_short(s.width, len)
 }
 
 // What the header of a frame says, or what the frame is refused for.
@@ -87,17 +71,9 @@ pub fn read_head(s: BitSettings, frame: &[u8]) -> Heading
     ensures { λ r. ⌜ r ≡ bit-heading s (now (frame .entry)) ⌝ }
 {
     if !in_range(s) {
-        return super::refused(REFUSED_SETTING);
+        return shape::refused(refusals::SETTING);
     }
-    if !has_length(s, frame.len()) {
-        return super::refused(REFUSED_LENGTH);
-    }
-    let head = octets::number6(frame, 0);
-    let zone = octets::number2(frame, 6) as u64;
-    let pointer = octets::field(zone, POINTER);
-    let spare = octets::field(zone, ZONE_SPARE);
-    let refusal = super::header_refusal(s.link, head, spare, unused(s, pointer));
-    super::heading_of(refusal, head, pointer)
+    shape::read_head(shape_of(s), frame)
 }
 
 // Writes both headers of the frame with this count and pointer at the front of buf; nothing, and the row's number, where it is refused.
@@ -105,7 +81,8 @@ pub fn write_head(s: BitSettings, count: u32, pointer: u16, buf: &mut [u8]) -> u
     ensures { λ r. ⌜ r ≡ first (bit-head-rows s count pointer (now (buf .entry))) ⌝ }
     ensures { λ r. ⌜ now (buf .exit) ≡ pick (eqb r 0) (over (now (buf .entry)) 0 (bit-head s count pointer)) (now (buf .entry)) ⌝ }
 {
-    let pointed = (pointer < POINTERS) & !unused(s, pointer as u64);
-    let zone = octets::placed(0, POINTER, pointer as u64);
-    super::write_headers(s.link, in_range(s), count, pointed, zone, buf)
+    if !in_range(s) {
+        return refusals::SETTING;
+    }
+    shape::write_head(shape_of(s), count, pointer, buf)
 }

@@ -1,9 +1,9 @@
--- `frames::head_word` meets its contract: the fields are put in one after the other.
+-- `frames::shape::head_word` meets its contract: the fields are put in one after the other.
 -- Assumes nothing.
 use mir.Facts.{fits-32-64}
 use Rattle.frames.specs.Link.{head-word}
-use Rattle.frames.proofs.head_word.Statement.{statement}
-use Rattle.frames.proofs.head_word.Tie as tie
+use Rattle.frames.proofs.shape.head_word.Statement.{statement}
+use Rattle.frames.proofs.shape.head_word.Tie as tie
 
 returns : tie.Need-returns
 unfolding head-word

@@ -1,0 +1,180 @@
+// The frames of both channels: their headers read and written, over the shape in which the channels differ.
+ghost use mathlib.Core.Path.{_≡_};
+ghost use mathlib.Core.Bool.{true};
+ghost use Prim.Native.Nat.{_^_};
+ghost use lib.Dec.{ltb, eqb};
+ghost use Rattle.octets.specs.Basics.{pick, first, over};
+ghost use Rattle.frames.specs.Link.{head-word};
+ghost use Rattle.frames.specs.Shape.{octets-of, pointer-at, shape-unused, both-rows, shape-rows, no-heading, heading-by, shape-heading, shape-head, shape-head-rows};
+ghost use Rattle.frames.specs.declared.Link.{Link};
+use super::Heading;
+use super::Link;
+use super::WHEEL;
+use super::ZONE_AT;
+use octets::Place;
+use octets::refusals;
+
+// What the channels differ in: the octets of the zone; the bits of the pointer, which has the spare bits of the zone's header above it;
+// and the pointers that are not used, from the first beyond the zone to the last.
+pub(crate) struct Shape {
+    pub link: Link,
+    pub size: usize,
+    pub width: u32,
+    pub beyond: u64,
+    pub last: u64,
+}
+
+const VERSION: Place = Place {
+    below: 46,
+    width: 2,
+};
+
+const SPACECRAFT: Place = Place {
+    below: 38,
+    width: 8,
+};
+
+const CHANNEL: Place = Place {
+    below: 32,
+    width: 6,
+};
+
+const COUNT: Place = Place {
+    below: 8,
+    width: 24,
+};
+
+const REPLAY: Place = Place { below: 7, width: 1 };
+
+const SPARE: Place = Place { below: 0, width: 7 };
+
+// Whether a frame with so many octets in its zone has so many octets, on any link.
+pub(crate) fn has_length(size: usize, len: usize) -> bool
+    ensures { λ r. ⌜ ((l : Link) → r ≡ eqb len (octets-of l size)) ⌝ }
+{
+    ZONE_AT <= len && len - ZONE_AT == size
+}
+
+// Whether so many octets are less than a frame with so many octets in its zone, on any link.
+pub(crate) fn is_short(size: usize, len: usize) -> bool
+    ensures { λ r. ⌜ ((l : Link) → r ≡ ltb len (octets-of l size)) ⌝ }
+{
+    if len < ZONE_AT {
+        return true;
+    }
+    len - ZONE_AT < size
+}
+
+// Where the pointer stands in the zone's header.
+fn pointer_at(h: Shape) -> Place
+    ensures { λ r. ⌜ r ≡ pointer-at (h .width) ⌝ }
+{
+    Place {
+        below: 0,
+        width: h.width,
+    }
+}
+
+// Whether a number has no bit above the pointer's: of a zone's header, whether its spare bits are 0; of a pointer, whether it fits.
+fn fits(h: Shape, number: u64) -> bool
+    ensures { λ r. ⌜ r ≡ ltb number (2 ^ h .width) ⌝ }
+{
+    octets::field(number, pointer_at(h)) == number
+}
+
+// Whether a pointer is one that is not used.
+fn is_unused(h: Shape, pointer: u64) -> bool
+    ensures { λ r. ⌜ r ≡ shape-unused h pointer ⌝ }
+{
+    (h.beyond <= pointer) & (pointer <= h.last)
+}
+
+// What a frame of the right length is refused for, by the numbers of both its headers.
+fn header_refusal(h: Shape, head: u64, zone: u16) -> u8
+    ensures { λ r. ⌜ r ≡ first (both-rows h head zone) ⌝ }
+{
+    if octets::field(head, VERSION) != 1 {
+        return refusals::VERSION;
+    }
+    let channel = (octets::field(head, SPACECRAFT) == h.link.spacecraft as u64)
+        & (octets::field(head, CHANNEL) == h.link.channel as u64);
+    if !channel {
+        return refusals::CHANNEL;
+    }
+    let clear = (octets::field(head, SPARE) == 0) & fits(h, zone as u64);
+    let unused = is_unused(h, octets::field(zone as u64, pointer_at(h)));
+    if !clear {
+        return refusals::SPARE;
+    }
+    if unused {
+        return refusals::POINTER;
+    }
+    0
+}
+
+// A refusal alone.
+pub(crate) fn refused(refusal: u8) -> Heading
+    ensures { λ r. ⌜ r ≡ no-heading refusal ⌝ }
+{
+    Heading {
+        refusal,
+        count: 0,
+        replay: 0,
+        pointer: 0,
+    }
+}
+
+// What both headers say, by their numbers; or the refusal alone.
+fn heading(h: Shape, head: u64, zone: u16) -> Heading
+    ensures { λ r. ⌜ r ≡ heading-by h (first (both-rows h head zone)) head zone ⌝ }
+{
+    let refusal = header_refusal(h, head, zone);
+    if refusal != 0 {
+        return refused(refusal);
+    }
+    Heading {
+        refusal: 0,
+        count: octets::field(head, COUNT) as u32,
+        replay: octets::field(head, REPLAY) as u8,
+        pointer: octets::field(zone as u64, pointer_at(h)) as u16,
+    }
+}
+
+// What the header of a frame says, or what the frame is refused for, with settings in range.
+pub(crate) fn read_head(h: Shape, frame: &[u8]) -> Heading
+    ensures { λ r. ⌜ r ≡ shape-heading h (shape-rows h (now (frame .entry))) (now (frame .entry)) ⌝ }
+{
+    if !has_length(h.size, frame.len()) {
+        return refused(refusals::LENGTH);
+    }
+    heading(h, octets::number6(frame, 0), octets::number2(frame, 6))
+}
+
+// The frame's own header, as a number.
+fn head_word(l: Link, count: u32, replay: u8) -> u64
+    ensures { λ r. ⌜ r ≡ head-word l count replay ⌝ }
+{
+    let flag = octets::placed(0, REPLAY, replay as u64);
+    let counted = octets::placed(flag, COUNT, count as u64);
+    let channel = octets::placed(counted, CHANNEL, l.channel as u64);
+    let craft = octets::placed(channel, SPACECRAFT, l.spacecraft as u64);
+    octets::placed(craft, VERSION, 1)
+}
+
+// Writes both headers of the frame with this count and pointer at the front of buf, with settings in range; nothing, and the row's
+// number, where they are refused.
+pub(crate) fn write_head(h: Shape, count: u32, pointer: u16, buf: &mut [u8]) -> u8
+    ensures { λ r. ⌜ r ≡ first (shape-head-rows true h count pointer (now (buf .entry))) ⌝ }
+    ensures { λ r. ⌜ now (buf .exit) ≡ pick (eqb r 0) (over (now (buf .entry)) 0 (shape-head h count pointer)) (now (buf .entry)) ⌝ }
+{
+    let pointed = fits(h, pointer as u64) & !is_unused(h, pointer as u64);
+    if !((count < WHEEL) & pointed) {
+        return refusals::SETTING;
+    }
+    if buf.len() < ZONE_AT {
+        return refusals::ROOM;
+    }
+    octets::put(buf, 0, 6, head_word(h.link, count, 0));
+    octets::put(buf, 6, 2, octets::placed(0, pointer_at(h), pointer as u64));
+    0
+}
