@@ -68,6 +68,10 @@ pub place-inside : {s : Settings} {store : List ℕ} {h at : ℕ} → Place s st
 place-inside (in-zone low) = low
 place-inside (in-packet some-held room begun) = omega arith
 
+pub place-before : {s : Settings} {store : List ℕ} {h at : ℕ} → Place s store h at → (h ≡ 0 → ⊥) → at ≡ 0
+place-before (in-zone low) some = absurd (some refl)
+place-before (in-packet some-held room begun) some = refl
+
 -- what a walking record has before it: the octets held, and the zone from where it stands
 abbrev pub ahead : Settings → List ℕ → List ℕ → ℕ → ℕ → List ℕ
 ahead s f store h at = take h store ++ drop at (zone-of s f)

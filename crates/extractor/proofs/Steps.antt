@@ -4,7 +4,7 @@ use mathlib.Core.Path.{_≡_, refl, sym, ap, ap₂, subst, _∙_}
 use mathlib.Core.List.{List, [], _∷_, _++_}
 use mathlib.Core.Bool.{Bool}
 use Prim.Native.Nat.{ℕ, zero, suc, _+_, _-_, _≤_, _<_}
-use native.Mathlib.Nat.{sub-zero, zero-sub, suc-sub-suc, add-sub-cancel-left}
+use native.Mathlib.Nat.{sub-zero, zero-sub, suc-sub-suc}
 use native.Mathlib.Omega.{arith}
 use lib.ListN.{length, take, drop, length-append}
 use lib.Seq.{take-take, take-nil, take-append-add, drop-nil, drop-drop, length-take-le}
@@ -113,30 +113,24 @@ module _ {s : Settings} {h at : ℕ} {store f : List ℕ} (w : Walks s h at stor
         its-mark ys same = idle-begun (s .limit) both ys some-room (sym told ∙ its-length) (omega (arith, length-both)) same
 
         -- a packet that lies in the frame
-        pub step-frame : (n : ℕ) (idle : Bool) → h ≡ 0 → n ≡ l - h → idle ≡ is-idle (left s at f)
-            → steps-to (InFrame (8 + at) l idle) (Walking last 0 (at + n)) store ≡ step s f store (Walking last h at)
+        pub step-frame : (idle : Bool) → h ≡ 0 → idle ≡ is-idle (left s at f)
+            → steps-to (InFrame (8 + at) l idle) (Walking last 0 (at + l)) store ≡ step s f store (Walking last h at)
         unfolding handed-over
-        step-frame n idle none m i =
-            let all : n ≡ l = omega arith in
+        step-frame idle none i =
             let alone : left s at f ≡ both = rw none refl in
             let mark : idle ≡ is-idle (take l both) = i ∙ its-mark (left s at f) (ap (take l) alone) in
-            rw (mark, all) (rw (eq-eqb h 0 none) at handed)
+            rw mark (rw (eq-eqb h 0 none) at handed)
 
         -- a packet whose last octets are laid after those held
-        pub step-laid : (n : ℕ) (st : List ℕ) (idle : Bool) → (h ≡ 0 → ⊥) → n ≡ l - h → st ≡ laid-part store h (8 + at) (8 + at + n) f → idle ≡ is-idle st
-            → steps-to (InStore l idle) (Walking last 0 (at + n)) st ≡ step s f store (Walking last h at)
+        pub step-laid : (n : ℕ) (st : List ℕ) (idle : Bool) → (h ≡ 0 → ⊥) → n ≡ at + (l - h) → st ≡ laid-part store h (8 + at) (8 + n) f → idle ≡ is-idle st
+            → steps-to (InStore l idle) (Walking last 0 n) st ≡ step s f store (Walking last h at)
         unfolding handed-over
         step-laid n st idle some m v i =
             let rest : ℕ = 8 + s .zone - (8 + at) in
             let cut : take (l - h) (left s at f) ≡ take (l - h) (drop (8 + at) f) = take-take (l - h) rest (drop (8 + at) f) (omega arith) in
+            let size : 8 + n - (8 + at) ≡ l - h = omega arith in
             let written : st ≡ over store h (take (l - h) (left s at f)) =
-            rw (
-              v,
-              m,
-              cut,
-              part-within store h (8 + at) (8 + at + (l - h)) f (omega arith) (omega (arith, plain w)) (omega (arith, whole-limit, plain w)),
-              add-sub-cancel-left (8 + at) (l - h),
-            ) refl in
+            rw (v, cut, part-within store h (8 + at) (8 + n) f (omega arith) (omega (arith, plain w)) (omega (arith, whole-limit, plain w)), size) refl in
             let mark : idle ≡ is-idle (take l both) = i ∙ its-mark st (ap (take l) written ∙ packet-laid) in
             rw (mark, m, written) (rw (ne-eqb h 0 some) at handed)
           where

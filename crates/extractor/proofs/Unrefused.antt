@@ -1,6 +1,6 @@
 -- What a call that no row refuses has.
 -- Assumes nothing.
-use mathlib.Core.Path.{_≡_}
+use mathlib.Core.Path.{_≡_, subst}
 use mathlib.Core.List.{List}
 use mathlib.Core.Bool.{true, false}
 use Prim.Native.Nat.{ℕ, zero, suc, _≤_}
@@ -16,7 +16,7 @@ use Rattle.extractor.specs.Records.{holds-well, on-wheel, reachable, is-
 use Rattle.extractor.specs.Walks.{Walks}
 use Rattle.extractor.specs.declared.Extractor.{Extractor}
 use Rattle.extractor.specs.declared.Extractor.the-variants.{Fresh, Astray, InStep, Walking, Leaving}
-use Rattle.extractor.proofs.Places.{holds-packet, place, place-held, place-inside}
+use Rattle.extractor.proofs.Places.{holds-packet, place, place-held, place-inside, place-before}
 
 -- ---- entering
 
@@ -93,3 +93,11 @@ walks s last h at store f e =
     let m = moves s (Walking last h at) store f e in
     let p = place s store last h at (m .reached) in
     record { ranged = m .ranged; room = m .room; inside = place-inside p; holds = place-held p; framed = m .framed }
+
+-- octets are held before the zone alone
+pub walks-held : (s : Settings) (last h at : ℕ) (store f : List ℕ) → first (step-rows s (Walking last h at) store f) ≡ 0 → (h ≡ 0 → ⊥)
+    → (at ≡ 0) × Walks s h 0 store f
+walks-held s last h at store f e some =
+    let m = moves s (Walking last h at) store f e in
+    let low = place-before (place s store last h at (m .reached)) some in
+    (low, subst (λ (n : ℕ). Walks s h n store f) low (walks s last h at store f e))

@@ -161,9 +161,6 @@ pub(crate) fn length_across(
     requires { ⌜ (from ≤ to) × (to ≤ length (now frame)) ⌝ }
     ensures { λ r. ⌜ seen r ≡ look limit (take held (now (store .entry)) ++ take (to - from) (drop from (now (frame .entry)))) ⌝ }
 {
-    if held == 0 {
-        return packets::read_length(limit, &frame[from..to]);
-    }
     if MOST_HEADER <= held {
         return packets::read_length(limit, &store[..held]);
     }

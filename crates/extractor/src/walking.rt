@@ -47,36 +47,52 @@ fn onward(last: u32, at: usize) -> Extractor
     Extractor::Walking { last, held: 0, at }
 }
 
-// One step of a walk: the next packet is shown where it lies, or completed at the end of the octets held; what is left of the zone
-// and is no whole packet joins them.
-fn walk(s: Settings, last: u32, held: usize, at: usize, store: &mut [u8], frame: &[u8]) -> Move
-    requires { ⌜ Walks s held at (now store) (now frame) ⌝ }
-    ensures { λ r. ⌜ stepped r (now (store .exit)) ≡ step s (now (frame .entry)) (now (store .entry)) (Extractor.Walking last held at) ⌝ }
+// A step with nothing held: the next packet is shown where it lies, or what is left of the zone is kept.
+fn walk(s: Settings, last: u32, at: usize, store: &mut [u8], frame: &[u8]) -> Move
+    requires { ⌜ Walks s 0 at (now store) (now frame) ⌝ }
+    ensures { λ r. ⌜ stepped r (now (store .exit)) ≡ step s (now (frame .entry)) (now (store .entry)) (Extractor.Walking last 0 at) ⌝ }
 {
     let from = ZONE_AT + at;
     let to = ZONE_AT + s.zone;
-    match length_across(s.limit, store, held, frame, from, to) {
+    let left = &frame[from..to];
+    match packets::read_length(s.limit, left) {
         Seen::Damaged => abandoned(last),
-        Seen::More => keep(last, held, store, frame, from, to),
+        Seen::More => keep(last, 0, store, frame, from, to),
         Seen::Whole { total } => {
-            if held + (to - from) < total {
-                return keep(last, held, store, frame, from, to);
+            if to - from < total {
+                return keep(last, 0, store, frame, from, to);
+            }
+            let found = Found::InFrame {
+                start: from,
+                size: total,
+                idle: packets::is_idle(left),
+            };
+            let next = onward(last, at + total);
+            Move { found, next }
+        }
+    }
+}
+
+// A step with octets held, before the zone: their packet is completed at their end, or all of the zone joins them.
+fn complete(s: Settings, last: u32, held: usize, store: &mut [u8], frame: &[u8]) -> Move
+    requires { ⌜ Walks s held 0 (now store) (now frame) × (held ≡ 0 → ⊥) ⌝ }
+    ensures { λ r. ⌜ stepped r (now (store .exit)) ≡ step s (now (frame .entry)) (now (store .entry)) (Extractor.Walking last held 0) ⌝ }
+{
+    let to = ZONE_AT + s.zone;
+    match length_across(s.limit, store, held, frame, ZONE_AT, to) {
+        Seen::Damaged => abandoned(last),
+        Seen::More => keep(last, held, store, frame, ZONE_AT, to),
+        Seen::Whole { total } => {
+            if held + s.zone < total {
+                return keep(last, held, store, frame, ZONE_AT, to);
             }
             let rest = octets::rest(total, held);
-            let next = onward(last, at + rest);
-            if held == 0 {
-                let found = Found::InFrame {
-                    start: from,
-                    size: total,
-                    idle: packets::is_idle(&frame[from..to]),
-                };
-                return Move { found, next };
-            }
-            octets::lay(store, held, frame, from, from + rest);
+            octets::lay(store, held, frame, ZONE_AT, ZONE_AT + rest);
             let found = Found::InStore {
                 size: total,
                 idle: packets::is_idle(store),
             };
+            let next = onward(last, rest);
             Move { found, next }
         }
     }
@@ -100,7 +116,12 @@ pub(crate) fn moved(s: Settings, x: Extractor, store: &mut [u8], frame: &[u8]) -
             found: Found::Spent,
             next: x,
         },
-        Extractor::Walking { last, held, at } => walk(s, last, held, at, store, frame),
+        Extractor::Walking { last, held, at } => {
+            if held == 0 {
+                return walk(s, last, at, store, frame);
+            }
+            complete(s, last, held, store, frame)
+        }
         Extractor::Leaving { last } => Move {
             found: Found::Spent,
             next: Extractor::Astray { last },

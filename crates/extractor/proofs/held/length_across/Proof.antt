@@ -1,5 +1,4 @@
--- `held::length_across` meets its contract: with nothing held the frame's part is read as it lies, with eight octets or more the
--- store's front says it all, and else the first octets of both.
+-- `held::length_across` meets its contract: with eight octets held or more the store's front says it all, and else the first octets of both.
 -- Assumes nothing.
 use mathlib.Core.Path.{_≡_, sym, ap, _∙_}
 use Prim.Native.Nat.{_≤_}
@@ -19,18 +18,15 @@ within c =
     let l : length (c .start-of .result .octets) ≡ 8 = search needs in
     omega arith
 
-returns : tie.Need-returns
-returns c = rw (c .before .before .if1 .taken) (c .read-length .ensures)
-
 slice-aggregate-read-length : tie.Need-slice-aggregate-read-length
-slice-aggregate-read-length c = sym (length-take-le _ _ (c .before .before .before .before .before .pre .0 .1))
+slice-aggregate-read-length c = sym (length-take-le _ _ (c .before .before .before .before .pre .0 .1))
 
-returns-2 : tie.Need-returns-2
-returns-2 c =
-    let at-start = c .before .before .before .before .before .before in
+returns : tie.Need-returns
+returns c =
+    let at-start = c .before .before .before .before .before in
     let a = at-start .args in
     let held : length (take (a .held) (a .store .now)) ≡ a .held = length-take-le _ _ (at-start .pre .0 .1) in
-    c .read-length2 .ensures ∙ look-eight (a .limit) (take (a .held) (a .store .now)) _ (at-start .pre .0 .0) (omega arith)
+    c .read-length .ensures ∙ look-eight (a .limit) (take (a .held) (a .store .now)) _ (at-start .pre .0 .0) (omega arith)
 
 array-share-prefix-octets : tie.Need-array-share-prefix-octets
 array-share-prefix-octets c = within (c .before)
@@ -38,25 +34,20 @@ array-share-prefix-octets c = within (c .before)
 slice-aggregate-read-length-2 : tie.Need-slice-aggregate-read-length-2
 slice-aggregate-read-length-2 c = sym (length-take-le _ _ (within (c .before .before)))
 
-returns-3 : tie.Need-returns-3
-returns-3 c =
-    let at-start = c .before .before .before .before .before .before .before .before in
-    c .read-length3 .ensures ∙ ap (look (at-start .args .limit)) (c .before .before .before .start-of .ensures .0) ∙ look-front (at-start .args .limit) _ (at-start .pre .0 .0)
+returns-2 : tie.Need-returns-2
+returns-2 c =
+    let at-start = c .before .before .before .before .before .before .before in
+    c .read-length2 .ensures ∙ ap (look (at-start .args .limit)) (c .before .before .before .start-of .ensures .0) ∙ look-front (at-start .args .limit) _ (at-start .pre .0 .0)
 
 pub length-across-spec : {M : Type 1} → statement M
 length-across-spec =
     tie.close
     (tie.spec
-    (λ c. search needs)
-    (λ c. search needs)
-    (λ c. search needs)
-    (λ c κs. search needs)
-    returns
     slice-aggregate-read-length
     (λ c κs. search needs)
-    returns-2
+    returns
     (λ c κs. search needs)
     array-share-prefix-octets
     slice-aggregate-read-length-2
     (λ c κs. search needs)
-    returns-3)
+    returns-2)
