@@ -1,6 +1,6 @@
 -- The answers in numbers tell the answers apart: two outcomes that meet a promise are equal.
 -- Assumes nothing.
-use mathlib.Core.Path.{_≡_, refl, ap}
+use mathlib.Core.Path.{_≡_, refl, sym, ap, _∙_}
 use mathlib.Core.List.{List}
 use mathlib.Core.Bool.{true, false}
 use Prim.Native.Nat.{ℕ}
@@ -9,10 +9,12 @@ use Rattle.octets.specs.Basics.{pick}
 use Rattle.octets.proofs.Tests.{told-apart}
 use Rattle.extractor.specs.Records.{Stepped, steps-to}
 use Rattle.extractor.specs.Answers.{EnterNumbers, EnterSaid, entered-numbers, enter-says, StepNumbers, StepSaid, found-numbers, said, stepped, step-says}
+use Rattle.extractor.specs.Calls.{SpendSaid, spend-says}
 use Rattle.extractor.specs.declared.Entered.{Entered}
 use Rattle.extractor.specs.declared.Entering.{Entering}
 use Rattle.extractor.specs.declared.Found.{Found}
 use Rattle.extractor.specs.declared.Move.{Move}
+use Rattle.extractor.specs.declared.Spending.{Spending}
 
 -- ---- entering
 
@@ -69,3 +71,10 @@ pub step-determined : (f : List ℕ) {a b : Move} {p q : List ℕ} {x : StepSaid
 step-determined f {a} {b} {p} {q} d e =
     let same : stepped a p ≡ stepped b q = told-apart (said f) stepped-back (stepped-undo f) d e in
     (ap (λ (w : Stepped). record { found = w .found; next = w .next }) same, ap (λ (w : Stepped). w .store) same)
+
+-- ---- spending
+
+pub spend-determined : {a b : Spending} {p q : List ℕ} {x : SpendSaid} → spend-says a p ≡ x → spend-says b q ≡ x → (a ≡ b) × (p ≡ q)
+spend-determined {a} {b} {p} {q} d e =
+    let same : spend-says a p ≡ spend-says b q = d ∙ sym e in
+    (ap (λ (w : SpendSaid). record { refusal = w .refusal; next = w .next }) same, ap (λ (w : SpendSaid). w .store) same)

@@ -11,6 +11,7 @@ pub mod Pointers
 pub mod Reaches
 pub mod Refused
 pub mod Settles
+pub mod Spends
 pub mod Starts
 pub mod Steps
 pub mod Theorems

@@ -25,7 +25,7 @@ use Rattle.frames.proofs.Settled.{settled}
 use Rattle.frames.proofs.Wheel.{count-lt}
 use Rattle.extractor.specs.Extract.{State, astray, Event, torn, as-event, event-of, Walked, after, ends, walk-turns, walk, take-in}
 use Rattle.extractor.specs.Records.{on-wheel, reachable, is-entered, stands-for, enter, Stepped, steps-to, step-rows, step, step-call, shown}
-use Rattle.extractor.specs.Calls.{event-at, Finds, one-more, none-left, goes-on, steps, SpentLast}
+use Rattle.extractor.specs.Calls.{event-at, Finds, one-more, none-left, goes-on, steps, through, SpentLast}
 use Rattle.extractor.specs.declared.Extractor.{Extractor}
 use Rattle.extractor.specs.declared.Extractor.the-variants.{Fresh, Astray, InStep, Walking, Leaving}
 use Rattle.extractor.specs.declared.Found.{Found}
@@ -233,17 +233,23 @@ arrival-settles s f store ok right room nothing = leaving-settles s f ok right s
 arrival-settles s f store ok right room (onward {h} {at} p undamaged) =
     spends s f ok right (suc (s .zone)) (length (ahead s f store h at)) store (count s f) h at room (count-on-wheel s f) p (omega arith) (omega arith)
 
+settled-so : {s : Settings} {store : List ℕ} {es : List Event} {left : State} {t : Finds} → Settles s store es left t
+    → Keeps s store false (t .next) (t .store) × SpentLast (t .found)
+settled-so r = (r .keeps, r .closes)
+
 -- a frame is spent within a step for each octet of the zone, and one more, of any frame of the right length
 pub spent-in-time : (s : Settings) (f store : List ℕ) (x : Extractor) → in-range s ≡ true → length f ≡ frame-length s
-    → s .limit ≤ length store → reachable s store x ≡ true → is-entered x ≡ true → SpentLast (steps s f (suc (s .zone)) x store .found)
+    → s .limit ≤ length store → reachable s store x ≡ true → is-entered x ≡ true
+    → let t : Finds = through s f x store in
+    Keeps s store false (t .next) (t .store) × SpentLast (t .found)
 unfolding is-entered reachable
 spent-in-time s f store Fresh ok right room reach entered = apart (cc)
 spent-in-time s f store (Astray last) ok right room reach entered = apart (cc)
 spent-in-time s f store (InStep last h) ok right room reach entered = apart (cc)
 spent-in-time s f store (Walking last h at) ok right room reach entered =
-    spends s f ok right (suc (s .zone)) (length (ahead s f store h at)) store last h at room (wheel-of s store last h at reach)
-    (place s store last h at reach) (omega arith) (omega arith) .closes
-spent-in-time s f store (Leaving last) ok right room reach entered = leaving-settles s f ok right store (s .zone) last room reach .closes
+    settled-so (spends s f ok right (suc (s .zone)) (length (ahead s f store h at)) store last h at room (wheel-of s store last h at reach)
+    (place s store last h at reach) (omega arith) (omega arith))
+spent-in-time s f store (Leaving last) ok right room reach entered = settled-so (leaving-settles s f ok right store (s .zone) last room reach)
 
 -- the steps of a frame say what the written rules say of it, and leave what they leave
 pub steps-are-events : (s : Settings) (f store : List ℕ) (x : Extractor) → in-range s ≡ true → first (frame-rows s f) ≡ 0

@@ -1,6 +1,6 @@
 -- The statements about the extractor's calls, proved.
 -- Assumes nothing.
-use mathlib.Core.Path.{_≡_, refl}
+use mathlib.Core.Path.{_≡_, refl, ap}
 use mathlib.Core.List.{List}
 use mathlib.Core.Bool.{true, false}
 use Prim.Native.Nat.{ℕ}
@@ -17,16 +17,17 @@ use Rattle.frames.specs.Link.{link-in-range, count-width}
 use Rattle.frames.specs.declared.Settings.{Settings}
 use Rattle.extractor.specs.Records.{unfinished, holds-well, reachable, step-rows, step, step-call}
 use Rattle.extractor.specs.Reach.{room-to-state, encapsulation-goes-on, can-go-on, held-goes-on}
-use Rattle.extractor.specs.Calls.{goes-on}
+use Rattle.extractor.specs.Calls.{goes-on, spend-answer}
 use Rattle.extractor.specs.Statements.{SaysTheRules, SaysThemOn, SpendsInTime, KeepsToTheTest, ReachesAll, Exceptions, Determined, tight, seven-held}
 use Rattle.extractor.specs.declared.Extractor.{Extractor}
 use Rattle.extractor.specs.declared.Extractor.the-variants.{Walking}
-use Rattle.extractor.proofs.Determined.{enter-determined, step-determined}
+use Rattle.extractor.proofs.Determined.{enter-determined, step-determined, spend-determined}
 use Rattle.extractor.proofs.GoingOn.{reached-by-test}
 use Rattle.extractor.proofs.InTime.{entered-in-time}
 use Rattle.extractor.proofs.Listens.{listen-hears, fresh-hears}
 use Rattle.extractor.proofs.Reaches.{enter-next, step-next, reached-exactly}
-use Rattle.extractor.proofs.Settles.{Keeps, enter-reachable, step-keeps}
+use Rattle.extractor.proofs.Settles.{Keeps, enter-reachable, step-keeps, spent-in-time}
+use Rattle.extractor.proofs.Spends.{refused-stays}
 use Rattle.extractor.proofs.Unrefused.{arrives, moves}
 
 pub says-the-rules : SaysTheRules
@@ -54,6 +55,20 @@ unrefused-keeps s x store f e =
     let m = moves s x store f e in
     rw (step-next s x store f e) (step-keeps s f store x (m .ranged) (m .framed) (m .room) (m .reached) (m .underway))
 
+-- and what all the steps of a frame leave of it
+spent-kept : {A : Type 0} (s : Settings) (x : Extractor) (store f : List ℕ) (of : List ℕ → A)
+    → (first (step-rows s x store f) ≡ 0 → of (spend-answer s x store f .store) ≡ of store) → of (spend-answer s x store f .store) ≡ of store
+unfolding spend-answer
+spent-kept s x store f of h =
+    test (eqb (first (step-rows s x store f)) 0) (λ t. h (eqb-true (first (step-rows s x store f)) 0 t)) (λ t. ap of (refused-stays s f x store t .1))
+
+unrefused-spends : (s : Settings) (x : Extractor) (store f : List ℕ) → first (step-rows s x store f) ≡ 0
+    → Keeps s store false (spend-answer s x store f .next) (spend-answer s x store f .store)
+unfolding spend-answer
+unrefused-spends s x store f e =
+    let m = moves s x store f e in
+    spent-in-time s f store x (m .ranged) (m .framed) (m .room) (m .reached) (m .underway) .0
+
 pub keeps-to-the-test : KeepsToTheTest
 keeps-to-the-test = record {
   entering = λ s x store f e.
@@ -62,6 +77,9 @@ keeps-to-the-test = record {
   stepping = λ s x store f e. unrefused-keeps s x store f e .reach;
   length-kept = λ s x store f. store-kept s x store f length (λ e. unrefused-keeps s x store f e .same-room);
   far-kept = λ s x store f. store-kept s x store f (drop (s .limit)) (λ e. unrefused-keeps s x store f e .beyond);
+  spending = λ s x store f e. unrefused-spends s x store f e .reach;
+  length-spent = λ s x store f. spent-kept s x store f length (λ e. unrefused-spends s x store f e .same-room);
+  far-spent = λ s x store f. spent-kept s x store f (drop (s .limit)) (λ e. unrefused-spends s x store f e .beyond);
 }
 
 pub reaches-all : ReachesAll
@@ -78,4 +96,4 @@ exceptions = record {
 }
 
 pub determined : Determined
-determined = record { entering = enter-determined; stepping = step-determined }
+determined = record { entering = enter-determined; stepping = step-determined; spending = spend-determined }

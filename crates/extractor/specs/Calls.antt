@@ -4,13 +4,14 @@ use mathlib.Core.Path.{_≡_}
 use mathlib.Core.List.{List, [], _∷_, _++_}
 use mathlib.Core.Bool.{Bool, true, false}
 use lib.Dec.{eqb}
-use Rattle.octets.specs.Basics.{pick, All}
+use Rattle.octets.specs.Basics.{pick, first, All}
 use Rattle.frames.specs.declared.Settings.{Settings}
 use Rattle.extractor.specs.Extract.{Event, torn, as-event, Said, Told, refused, taken}
-use Rattle.extractor.specs.Records.{stands-for, Stepped, step-call, shown}
+use Rattle.extractor.specs.Records.{stands-for, step-rows, Stepped, step-call, shown}
 use Rattle.extractor.specs.Answers.{EnterNumbers, EnterSaid, enter-answer}
 use Rattle.extractor.specs.declared.Extractor.{Extractor}
 use Rattle.extractor.specs.declared.Found.{Found}
+use Rattle.extractor.specs.declared.Spending.{Spending}
 use Rattle.extractor.specs.declared.Found.the-variants.{Refused, InFrame, InStore, Damaged, Spent}
 
 -- what an answer, and the octets that `show` hands back for it, say
@@ -56,6 +57,30 @@ steps s f (suc n) x store =
     let w : Stepped = step-call s x store f in
     one-more f w (pick (goes-on (w .found)) (steps s f n (w .next) (w .store)) (none-left (w .next) (w .store)))
 
+-- all the steps of a frame that is entered
+abbrev pub through : Settings → List ℕ → Extractor → List ℕ → Finds
+through s f x store = steps s f (suc (s .zone)) x store
+
+-- what spending a frame answers: its refusal, the record after it, and the store that it leaves
+pub record SpendSaid : Type 0 where
+  pub refusal : ℕ
+  pub next : Extractor
+  pub store : List ℕ
+
+-- these three, put together
+abbrev pub spends-to : ℕ → Extractor → List ℕ → SpendSaid
+spends-to n x st = record { refusal = n; next = x; store = st }
+
+-- what an answer says
+abbrev pub spend-says : Spending → List ℕ → SpendSaid
+spend-says r st = spends-to (r .refusal) (r .next) st
+
+-- what the rules give: a step that is refused is the last one, and leaves all as it was
+unfoldable pub spend-answer : Settings → Extractor → List ℕ → List ℕ → SpendSaid
+spend-answer s x store f =
+    let t : Finds = through s f x store in
+    spends-to (first (step-rows s x store f)) (t .next) (t .store)
+
 -- what step after step answers, each with a frame of its own, until one does not go on
 unfoldable pub answers-to : Settings → Extractor → List ℕ → List (List ℕ) → List Found
 answers-to s x store [] = []
@@ -94,7 +119,7 @@ unfoldable pub listen : Settings → Extractor → List ℕ → List (List ℕ) 
 listen s x store [] = record { told = []; next = x; store = store }
 listen s x store (f ∷ fs) =
     let e : EnterSaid = enter-answer s x store f in
-    let t : Finds = steps s f (suc (s .zone)) (e .next) store in
+    let t : Finds = through s f (e .next) store in
     pick (eqb (e .answer .refusal) 0)
     (tells (taken (all-said (e .answer) t)) (listen s (t .next) (t .store) fs))
     (tells (refused (e .answer .refusal)) (listen s (e .next) store fs))

@@ -11,12 +11,13 @@ use Rattle.frames.specs.declared.Settings.{Settings}
 use Rattle.extractor.specs.Extract.{fresh, told}
 use Rattle.extractor.specs.Records.{reachable, is-entered, stands-for, enter-rows, step-rows, step-call}
 use Rattle.extractor.specs.Answers.{EnterSaid, enter-answer, enter-says, StepSaid, step-says}
-use Rattle.extractor.specs.Calls.{answers-to, SpentLast, listen}
+use Rattle.extractor.specs.Calls.{SpendSaid, spend-says, spend-answer, answers-to, SpentLast, listen}
 use Rattle.extractor.specs.Reach.{Reached, Continues, held-goes-on}
 use Rattle.extractor.specs.declared.Extractor.{Extractor}
 use Rattle.extractor.specs.declared.Extractor.the-variants.{Fresh, Walking}
 use Rattle.extractor.specs.declared.Entering.{Entering}
 use Rattle.extractor.specs.declared.Move.{Move}
+use Rattle.extractor.specs.declared.Spending.{Spending}
 
 -- the least zone and the least limit
 abbrev pub tight : Settings
@@ -56,6 +57,10 @@ pub record KeepsToTheTest : Type 0 where
       → reachable s (step-call s x store f .store) (step-call s x store f .next) ≡ true
   pub length-kept : (s : Settings) (x : Extractor) (store f : List ℕ) → length (step-call s x store f .store) ≡ length store
   pub far-kept : (s : Settings) (x : Extractor) (store f : List ℕ) → drop (s .limit) (step-call s x store f .store) ≡ drop (s .limit) store
+  pub spending : (s : Settings) (x : Extractor) (store f : List ℕ) → first (step-rows s x store f) ≡ 0
+      → reachable s (spend-answer s x store f .store) (spend-answer s x store f .next) ≡ true
+  pub length-spent : (s : Settings) (x : Extractor) (store f : List ℕ) → length (spend-answer s x store f .store) ≡ length store
+  pub far-spent : (s : Settings) (x : Extractor) (store f : List ℕ) → drop (s .limit) (spend-answer s x store f .store) ≡ drop (s .limit) store
 
 -- Calls lead exactly to the records that pass the test, but for those whose octets no zone can continue.
 abbrev pub ReachesAll : Type 0
@@ -73,3 +78,4 @@ pub record Exceptions : Type 0 where
 pub record Determined : Type 0 where
   pub entering : {a b : Entering} {x : EnterSaid} → enter-says a ≡ x → enter-says b ≡ x → a ≡ b
   pub stepping : (f : List ℕ) {a b : Move} {p q : List ℕ} {x : StepSaid} → step-says a f p ≡ x → step-says b f q ≡ x → (a ≡ b) × (p ≡ q)
+  pub spending : {a b : Spending} {p q : List ℕ} {x : SpendSaid} → spend-says a p ≡ x → spend-says b q ≡ x → (a ≡ b) × (p ≡ q)

@@ -40,6 +40,14 @@ pub record Walks (s : Settings) (h at : ℕ) (store f : List ℕ) : Type 0 where
   pub holds : h ≤ length store
   pub framed : length f ≡ frame-length s
 
+-- the record of a walk that has ended: damage leaves it out of step
+abbrev pub at-rest : Extractor → Extractor
+at-rest Fresh = Fresh
+at-rest (Astray last) = Astray last
+at-rest (InStep last h) = InStep last h
+at-rest (Walking last h at) = Walking last h at
+at-rest (Leaving last) = Astray last
+
 -- the frame's pointer
 abbrev pub PointsTo : Settings → List ℕ → ℕ → Type 0
 PointsTo s f p = p ≡ pointer s f

@@ -6,6 +6,7 @@ ghost use Rattle.octets.specs.Basics.{first};
 ghost use Rattle.frames.specs.Frame.{heading-rows};
 ghost use Rattle.extractor.specs.Records.{checked, enter-rows, step-rows, shown};
 ghost use Rattle.extractor.specs.Answers.{enter-says, enter-answer, step-says, step-answer};
+ghost use Rattle.extractor.specs.Calls.{spend-says, spend-answer};
 use frames::Settings;
 
 mod arriving;
@@ -76,6 +77,12 @@ pub enum Found {
 // What a step finds, and the record after it.
 pub struct Move {
     pub found: Found,
+    pub next: Extractor,
+}
+
+// What spending a frame is refused for, 0 where it is not, and the record after it.
+pub struct Spending {
+    pub refusal: u8,
     pub next: Extractor,
 }
 
@@ -164,6 +171,18 @@ pub fn step(s: Settings, x: Extractor, store: &mut [u8], frame: &[u8]) -> Move
         };
     }
     walking::moved(s, x, store, frame)
+}
+
+// Spends a frame that is entered: all its steps, and nothing told of what they find.
+pub fn spend(s: Settings, x: Extractor, store: &mut [u8], frame: &[u8]) -> Spending
+    ensures { λ r. ⌜ spend-says r (now (store .exit)) ≡ spend-answer s x (now (store .entry)) (now (frame .entry)) ⌝ }
+{
+    let refusal = step_refusal(s, x, store, frame);
+    if refusal != 0 {
+        return Spending { refusal, next: x };
+    }
+    let next = walking::spent(s, x, store, frame);
+    Spending { refusal, next }
 }
 
 // The part of the frame or of the store that a step's answer names; an empty part where it names none.

@@ -5,7 +5,8 @@ ghost use lib.ListN.{length, take, drop};
 ghost use Rattle.octets.specs.Basics.{first};
 ghost use Rattle.extractor.specs.Records.{step-rows, step, kept-for-later};
 ghost use Rattle.extractor.specs.Answers.{stepped};
-ghost use Rattle.extractor.specs.Walks.{Walks};
+ghost use Rattle.extractor.specs.Calls.{through};
+ghost use Rattle.extractor.specs.Walks.{Walks, at-rest};
 use crate::Extractor;
 use crate::Found;
 use crate::Move;
@@ -127,4 +128,51 @@ pub(crate) fn moved(s: Settings, x: Extractor, store: &mut [u8], frame: &[u8]) -
             next: Extractor::Astray { last },
         },
     }
+}
+
+// The record of a walk that has ended: damage leaves it out of step.
+fn at_rest(x: Extractor) -> Extractor
+    ensures { λ r. ⌜ r ≡ at-rest x ⌝ }
+{
+    let Extractor::Leaving { last } = x else {
+        return x;
+    };
+    Extractor::Astray { last }
+}
+
+// All the steps from `at` on, with nothing held: the record after the last one.
+fn walk_out(s: Settings, last: u32, at: usize, store: &mut [u8], frame: &[u8]) -> Extractor
+    requires { ⌜ first (step-rows s (Extractor.Walking last 0 at) (now store) (now frame)) ≡ 0 ⌝ }
+    ensures { λ r. ⌜ r ≡ through s (now (frame .entry)) (Extractor.Walking last 0 at) (now (store .entry)) .next ⌝ }
+    ensures { λ _. ⌜ now (store .exit) ≡ through s (now (frame .entry)) (Extractor.Walking last 0 at) (now (store .entry)) .store ⌝ }
+{
+    let mut from = at;
+    loop {
+        let step = walk(s, last, from, store, frame);
+        let next = step.next;
+        let Extractor::Walking { at, .. } = next else {
+            return at_rest(next);
+        };
+        from = at;
+    }
+}
+
+// All the steps of a call that is not refused: octets are held before the first one alone.
+pub(crate) fn spent(s: Settings, x: Extractor, store: &mut [u8], frame: &[u8]) -> Extractor
+    requires { ⌜ first (step-rows s x (now store) (now frame)) ≡ 0 ⌝ }
+    ensures { λ r. ⌜ r ≡ through s (now (frame .entry)) x (now (store .entry)) .next ⌝ }
+    ensures { λ _. ⌜ now (store .exit) ≡ through s (now (frame .entry)) x (now (store .entry)) .store ⌝ }
+{
+    let Extractor::Walking { last, held, at } = x else {
+        return at_rest(x);
+    };
+    if held == 0 {
+        return walk_out(s, last, at, store, frame);
+    }
+    let step = complete(s, last, held, store, frame);
+    let next = step.next;
+    let Extractor::Walking { at, .. } = next else {
+        return at_rest(next);
+    };
+    walk_out(s, last, at, store, frame)
 }

@@ -20,7 +20,7 @@ use Rattle.frames.proofs.Accepted.{length-zone, accepted}
 use Rattle.frames.proofs.Settled.{settled}
 use Rattle.extractor.specs.Extract.{State, in-step, any-torn, walk, walked, take-in}
 use Rattle.extractor.specs.Records.{reachable, is-entered, held-in, stands-for, enter}
-use Rattle.extractor.specs.Calls.{Finds}
+use Rattle.extractor.specs.Calls.{Finds, through}
 use Rattle.extractor.specs.declared.Extractor.{Extractor}
 use Rattle.extractor.specs.declared.Extractor.the-variants.{InStep}
 use Rattle.extractor.proofs.Settles.{Settles, steps-are-events}
@@ -28,7 +28,7 @@ use Rattle.extractor.proofs.Unrefused.{held-fits}
 use Rattle.extractor.proofs.Walked.{Clean, walk-clean}
 use Rattle.judge.specs.Judge.{opened, Verdict, fault, faulty-entry, faulty, judged}
 use Rattle.judge.specs.Calls.{tally-of, counts-well, judge-reachable, Judging, judging, faults-at, stepped-through, try-frame, judge-frame}
-use Rattle.judge.specs.Trials.{through, Tries}
+use Rattle.judge.specs.Trials.{Tries}
 use Rattle.judge.specs.declared.Judge.{Judge}
 use Rattle.judge.specs.declared.Judge.the-variants.{Open, Sound, Faulty}
 use Rattle.judge.proofs.Accepting.{Accepts, sound-tries, open-tries}

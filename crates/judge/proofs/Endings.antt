@@ -14,14 +14,14 @@ use Rattle.frames.specs.Frame.{idle-zone, zone-of, pointer, count}
 use Rattle.frames.specs.declared.Settings.{Settings}
 use Rattle.extractor.specs.Extract.{State, Step, astray, in-step, Event, event-of, any-torn, Walked, ends, walk-look, walk-turns, walk, walked}
 use Rattle.extractor.specs.Records.{is-entered, held-in, stands-for, enter}
-use Rattle.extractor.specs.Calls.{Finds}
+use Rattle.extractor.specs.Calls.{Finds, through}
 use Rattle.extractor.specs.declared.Extractor.{Extractor}
 use Rattle.extractor.specs.declared.Extractor.the-variants.{Fresh, Astray, InStep, Walking, Leaving}
 use Rattle.extractor.proofs.Settles.{steps-are-events}
 use Rattle.extractor.proofs.Walked.{event-whole}
 use Rattle.judge.specs.Judge.{faulty-entry}
 use Rattle.judge.specs.Calls.{judging, stepped-through}
-use Rattle.judge.specs.Trials.{through, Tries, goes-on-from}
+use Rattle.judge.specs.Trials.{Tries, goes-on-from}
 use Rattle.judge.proofs.Faults.{entered, entered-events, entered-state}
 
 data Ending : Walked → Type 0 where

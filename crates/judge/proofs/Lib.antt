@@ -7,7 +7,6 @@ pub mod Opening
 pub mod Reaches
 pub mod Rows
 pub mod Runs
-pub mod Spending
 pub mod Theorems
 pub mod Trying
 pub mod Verdicts

@@ -26,7 +26,7 @@ use Rattle.frames.proofs.Settled.{settled}
 use Rattle.frames.proofs.Wheel.{count-before, follows-before}
 use Rattle.extractor.specs.Extract.{State, in-step, any-torn, agreed, reason-by, reason-in, lost-since}
 use Rattle.extractor.specs.Records.{unfinished, holds-well, on-wheel, reachable, is-entered, stands-for, set-off, set-out, enter, steps-to, handed-over, step-look, step, step-call, shown}
-use Rattle.extractor.specs.Calls.{event-at, Finds, steps}
+use Rattle.extractor.specs.Calls.{event-at, Finds, steps, through}
 use Rattle.extractor.specs.declared.Extractor.the-variants.{InStep, Walking}
 use Rattle.extractor.specs.declared.Found.the-variants.{InFrame}
 use Rattle.extractor.proofs.Places.{BegunIn, Place, in-zone, in-packet, holds-packet, walking-reachable, ahead}
@@ -35,7 +35,6 @@ use Rattle.extractor.proofs.Settles.{step-unrefused}
 use Rattle.extractor.proofs.Walked.{event-whole}
 use Rattle.judge.specs.Judge.{opened, is-fault, faulty-entry}
 use Rattle.judge.specs.Calls.{tally-of, counts-well, judge-reachable, frame-refusals, judging, faults-at, stepped-through, try-frame, judge-frame, answers-frame, FrameSaid, frame-call}
-use Rattle.judge.specs.Trials.{through}
 use Rattle.judge.specs.Reach.{Reached, begins, judges, ReachesAll}
 use Rattle.judge.specs.declared.Judge.{Judge}
 use Rattle.judge.specs.declared.Judge.the-variants.{Open, Sound, Faulty}

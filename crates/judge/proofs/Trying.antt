@@ -8,18 +8,17 @@ use lib.Dec.{eqb}
 use Rattle.octets.specs.Basics.{or, first}
 use Rattle.frames.specs.Frame.{frame-rows}
 use Rattle.frames.specs.declared.Settings.{Settings}
-use Rattle.frames.proofs.Accepted.{accepted}
 use Rattle.extractor.specs.Records.{stands-for, enter-rows}
 use Rattle.extractor.specs.Answers.{enter-says, enter-answer}
+use Rattle.extractor.specs.Calls.{through}
 use Rattle.extractor.specs.declared.Extractor.{Extractor}
 use Rattle.extractor.specs.declared.Entry.{Entry}
 use Rattle.extractor.specs.declared.Entered.the-variants.{Refused, Taken}
 use Rattle.extractor.specs.declared.Entering.{Entering}
 use Rattle.extractor.proofs.Listens.{entering-refusal}
-use Rattle.extractor.proofs.Settles.{enter-reachable, spent-in-time}
 use Rattle.judge.specs.Judge.{is-fault, faulty-entry}
 use Rattle.judge.specs.Calls.{judging, faults-at, try-frame}
-use Rattle.judge.specs.Trials.{through, Spends, Tries, goes-on-from}
+use Rattle.judge.specs.Trials.{Tries, goes-on-from}
 use Rattle.judge.proofs.Entering.{refused-row, taken-as}
 use Rattle.judge.proofs.Endings.{not-entered, trial-ended}
 use Rattle.judge.proofs.Faults.{refused-faulty}
@@ -54,14 +53,7 @@ module _ {s : Settings} {n : ℕ} {x : Extractor} {store : List ℕ} (t : Tries 
     unfolding try-frame
     marked-tried m = rw (entry-faulty, m) refl
 
-    -- the steps then spend the frame
-    pub entered-spends : Spends s f (r .next) store
-    entered-spends =
-        let k = enter-reachable s f store x (t .ranged) frame-accepted (t .reached) (not-entered t f) in
-        rw (taken-as s x store f r told e q .next)
-        (spent-in-time s f store _ (t .ranged) (accepted s f frame-accepted .right-length) (t .room) (k .0) (k .1))
-
-    -- and the record that they leave decides
+    -- the record that the steps then leave decides
     pub unmarked-tried : marked ≡ false
         → judging (goes-on-from n (through s f (r .next) store .next)) (through s f (r .next) store .store) ≡ try-frame s n (stands-for store x) store f
     unfolding try-frame

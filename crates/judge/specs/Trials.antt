@@ -2,25 +2,16 @@
 use mathlib.Core.Path.{_≡_}
 use mathlib.Core.List.{List}
 use mathlib.Core.Bool.{true}
-use Prim.Native.Nat.{ℕ, suc, _+_, _≤_, _<_}
+use Prim.Native.Nat.{ℕ, _+_, _≤_, _<_}
 use lib.ListN.{length}
 use Rattle.frames.specs.Frame.{in-range, most-frames}
 use Rattle.frames.specs.declared.Settings.{Settings}
 use Rattle.extractor.specs.Records.{reachable}
-use Rattle.extractor.specs.Calls.{Finds, steps, SpentLast}
 use Rattle.extractor.specs.declared.Extractor.{Extractor}
 use Rattle.extractor.specs.declared.Extractor.the-variants.{Fresh, Astray, InStep, Walking, Leaving}
 use Rattle.judge.specs.Calls.{faults-at}
 use Rattle.judge.specs.declared.Judge.{Judge}
 use Rattle.judge.specs.declared.Judge.the-variants.{Sound}
-
--- all the steps of a frame that is entered
-abbrev pub through : Settings → List ℕ → Extractor → List ℕ → Finds
-through s f x store = steps s f (suc (s .zone)) x store
-
--- they spend it
-abbrev pub Spends : Settings → List ℕ → Extractor → List ℕ → Type 0
-Spends s f x store = SpentLast (through s f x store .found)
 
 -- frame n, before which the extractor is in step
 pub record Tries (s : Settings) (n : ℕ) (x : Extractor) (store : List ℕ) : Type 0 where

@@ -5,13 +5,11 @@ ghost use Rattle.octets.specs.Basics.{first};
 ghost use Rattle.frames.specs.Frame.{heading, most-frames};
 ghost use Rattle.frames.specs.Link.{count-width, missing};
 ghost use Rattle.extractor.specs.Records.{stands-for};
-ghost use Rattle.extractor.specs.Calls.{goes-on};
 ghost use Rattle.judge.specs.Calls.{frame-refusals, judging, faults-at, try-frame, judge-frame};
-ghost use Rattle.judge.specs.Trials.{through, Spends, Tries, goes-on-from};
+ghost use Rattle.judge.specs.Trials.{Tries, goes-on-from};
 use crate::Judge;
 use extractor::Entered;
 use extractor::Extractor;
-use extractor::Found;
 use frames::Settings;
 
 // The first fault stands at frame n.
@@ -40,36 +38,6 @@ fn goes_on_from(n: u32, x: Extractor) -> Judge
     }
 }
 
-// Whether another step follows.
-fn goes_on(found: Found) -> bool
-    ensures { λ r. ⌜ r ≡ goes-on found ⌝ }
-{
-    match found {
-        Found::Refused { .. } => false,
-        Found::InFrame { .. } => true,
-        Found::InStore { .. } => true,
-        Found::Damaged => true,
-        Found::Spent => false,
-    }
-}
-
-// Steps until the frame is spent.
-fn spend(s: Settings, x: Extractor, store: &mut [u8], frame: &[u8]) -> Extractor
-    requires { ⌜ Spends s (now frame) x (now store) ⌝ }
-    ensures { λ r. ⌜ r ≡ through s (now (frame .entry)) x (now (store .entry)) .next ⌝ }
-    ensures { λ _. ⌜ now (store .exit) ≡ through s (now (frame .entry)) x (now (store .entry)) .store ⌝ }
-{
-    let mut at = x;
-    loop {
-        let step = extractor::step(s, at, store, frame);
-        let found = step.found;
-        at = step.next;
-        if !goes_on(found) {
-            return at;
-        }
-    }
-}
-
 // Frame n of a run that had no fault before it.
 fn tried(s: Settings, n: u32, x: Extractor, store: &mut [u8], frame: &[u8]) -> Judge
     requires { ⌜ Tries s n x (now store) ⌝ }
@@ -84,7 +52,9 @@ fn tried(s: Settings, n: u32, x: Extractor, store: &mut [u8], frame: &[u8]) -> J
     if (entry.lost != 0) | (entry.reason != 0) {
         return fault(n);
     }
-    goes_on_from(n, spend(s, x, store, frame))
+    let spending = extractor::spend(s, x, store, frame);
+    let x = spending.next;
+    goes_on_from(n, x)
 }
 
 // The extractor's record before a first frame: in step, nothing held, and nothing missing, since the last count is the one before.

@@ -13,11 +13,15 @@ use Rattle.frames.specs.Frame.{zone-of}
 use Rattle.frames.specs.declared.Settings.{Settings}
 use Rattle.extractor.specs.Records.{enter-rows, step-rows, Stepped, steps-to, step-look, handed-over, step, step-call}
 use Rattle.extractor.specs.Answers.{enter-says, entered-as, enter-answer, found-numbers, said, step-says, step-answer}
+use Rattle.extractor.specs.Calls.{Finds, spends-to, spend-says}
+use Rattle.extractor.specs.Calls as calls
 use Rattle.extractor.specs.declared.Extractor.{Extractor}
 use Rattle.extractor.specs.declared.Extractor.the-variants.{Fresh, Astray, InStep, Walking, Leaving}
 use Rattle.extractor.specs.declared.Found.the-variants.{Refused}
 use Rattle.extractor.specs.declared.Move.{Move}
-use Rattle.extractor.proofs.Determined.{enter-determined, step-determined}
+use Rattle.extractor.specs.declared.Spending.{Spending}
+use Rattle.extractor.proofs.Determined.{enter-determined, step-determined, spend-determined}
+use Rattle.extractor.proofs.Spends.{spends-by-rows}
 use Rattle.extractor.proofs.Theorems.{keeps-to-the-test, reaches-all, exceptions}
 use Rattle.demands.specs.Promises.{Left}
 use Rattle.demands.specs.calls.Extractor.{OfExtractor}
@@ -61,6 +65,19 @@ of-extractor = record {
         gives = λ o m. m;
         one = λ o o′ p q.
             let same = step-determined f {a = o .answer} {b = o′ .answer} {p = o .lent} {q = o′ .lent} p q in
+            left-same o o′ (same .0) (same .1);
+      });
+  spend = λ κs s x lent-store lent-frame.
+      let f : List ℕ = now lent-frame in
+      let store : List ℕ = now lent-store in
+      let t : Finds = calls.through s f x store in
+      promised (λ (o : Left Spending). spend-says (o .answer) (o .lent)) (λ a. a .refusal) (step-rows s x store f) (spends-to 0 (t .next) (t .store))
+      (λ n. spends-to n x store) (spends-by-rows s f x store) refl (λ n. refl)
+      (record {
+        free = tt;
+        gives = λ o m. m;
+        one = λ o o′ p q.
+            let same = spend-determined {a = o .answer} {b = o′ .answer} {p = o .lent} {q = o′ .lent} p q in
             left-same o o′ (same .0) (same .1);
       });
   record-refusal = λ κs s x store. exactly;

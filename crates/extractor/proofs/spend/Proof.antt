@@ -1,0 +1,34 @@
+-- `spend` meets its contract: the first row that holds refuses, and else all the steps are taken.
+-- Assumes nothing.
+use mathlib.Core.Path.{refl, sym, _∙_}
+use borrow.Author.Tests.{ne-eqb}
+use Rattle.extractor.specs.Calls.{spend-answer}
+use Rattle.extractor.proofs.Spends.{spends-by-rows}
+use borrow.Author.Needs.{needs}
+use Rattle.extractor.proofs.spend.Statement.{statement}
+use Rattle.extractor.proofs.spend.Tie as tie
+
+returns : tie.Need-returns
+returns c =
+    let a = c .before .before .before .before .before .args in
+    rw (spends-by-rows (a .s) (a .frame .now) (a .x) (a .store .now), ← c .before .step-refusal .ensures, ne-eqb _ _ (c .if1 .taken)) refl
+
+spent-requires : tie.Need-spent-requires
+spent-requires c κs = sym (c .before .before .step-refusal .ensures) ∙ c .before .if1 .left
+
+returns-2 : tie.Need-returns-2
+unfolding spend-answer
+returns-2 c =
+    let e = c .before .before .spent .ensures in
+    rw (c .before .before .before .before .before .step-refusal .ensures, e .0, e .1) refl
+
+pub spend-spec : {M : Type 1} → statement M
+spend-spec =
+    tie.close
+    (tie.spec
+    (λ c κs. search needs)
+    (λ c. search needs)
+    returns
+    spent-requires
+    (λ c. search needs)
+    returns-2)
