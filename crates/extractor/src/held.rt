@@ -13,6 +13,7 @@ ghost use Rattle.extractor.specs.Records.{unfinished, holds-well, reacha
 ghost use Rattle.extractor.specs.Walks.{last-in, at-in, reached};
 use crate::Extractor;
 use frames::WHEEL;
+use octets::refusals;
 use packets::Seen;
 
 // A header has so many octets at most.
@@ -104,10 +105,10 @@ pub(crate) fn refusal(
     ensures { λ r. ⌜ ((s : Settings) (x : Extractor) → limit ≡ s .limit → zone ≡ s .zone → last ≡ last-in x → held ≡ held-in x → at ≡ at-in x → r ≡ first (row 2 (ltb (length (now (store .entry))) (s .limit)) ∷ row 10 (not (reachable s (now (store .entry)) x)) ∷ [])) ⌝ }
 {
     if store.len() < limit {
-        return 2;
+        return refusals::ROOM;
     }
     if !reachable(limit, zone, last, held, at, store) {
-        return 10;
+        return refusals::RECORD;
     }
     0
 }
@@ -127,7 +128,7 @@ pub(crate) fn is_entered(x: Extractor) -> bool
 
 // The first octets of those held and those that follow, eight at most: as many as a header has.
 struct Start {
-    octets: [u8; 8],
+    front: [u8; 8],
     n: usize,
 }
 
@@ -135,15 +136,15 @@ struct Start {
 fn start_of(store: &[u8], held: usize, frame: &[u8], from: usize, to: usize) -> Start
     requires { ⌜ (held ≤ 8) × (held ≤ length (now store)) ⌝ }
     requires { ⌜ (from ≤ to) × (to ≤ length (now frame)) ⌝ }
-    ensures { λ r. ⌜ take (r .n) (r .octets) ≡ take 8 (take held (now (store .entry)) ++ take (to - from) (drop from (now (frame .entry)))) ⌝ }
+    ensures { λ r. ⌜ take (r .n) (r .front) ≡ take 8 (take held (now (store .entry)) ++ take (to - from) (drop from (now (frame .entry)))) ⌝ }
     ensures { λ r. ⌜ r .n ≤ 8 ⌝ }
 {
     let more = octets::least(to - from, MOST_HEADER - held);
-    let mut octets = [0u8; 8];
-    octets::lay(&mut octets, 0, store, 0, held);
-    octets::lay(&mut octets, held, frame, from, from + more);
+    let mut front = [0u8; 8];
+    octets::lay(&mut front, 0, store, 0, held);
+    octets::lay(&mut front, held, frame, from, from + more);
     Start {
-        octets,
+        front,
         n: held + more,
     }
 }
@@ -165,7 +166,7 @@ pub(crate) fn length_across(
         return packets::read_length(limit, &store[..held]);
     }
     let start = start_of(store, held, frame, from, to);
-    let octets = start.octets;
+    let front = start.front;
     let n = start.n;
-    packets::read_length(limit, &octets[..n])
+    packets::read_length(limit, &front[..n])
 }

@@ -8,6 +8,7 @@ ghost use Rattle.extractor.specs.Records.{checked, enter-rows, step-rows
 ghost use Rattle.extractor.specs.Answers.{enter-says, enter-answer, step-says, step-answer};
 ghost use Rattle.extractor.specs.Calls.{spend-says, spend-answer};
 use frames::Settings;
+use octets::refusals;
 
 mod arriving;
 mod held;
@@ -91,7 +92,7 @@ pub fn record_refusal(s: Settings, x: Extractor, store: &[u8]) -> u8
     ensures { λ r. ⌜ r ≡ first (checked s x (now (store .entry)) []) ⌝ }
 {
     if !frames::in_range(s) {
-        return 1;
+        return refusals::SETTING;
     }
     held::refusal(
         s.limit,
@@ -107,8 +108,8 @@ pub fn record_refusal(s: Settings, x: Extractor, store: &[u8]) -> u8
 fn enter_refusal(s: Settings, x: Extractor, store: &[u8], head: u8) -> u8
     ensures { λ r. ⌜ ((f : List ℕ) → head ≡ first (heading-rows s f) → r ≡ first (enter-rows s x (now (store .entry)) f)) ⌝ }
 {
-    if head == 1 {
-        return 1;
+    if head == refusals::SETTING {
+        return refusals::SETTING;
     }
     let of_record = held::refusal(
         s.limit,
@@ -122,7 +123,7 @@ fn enter_refusal(s: Settings, x: Extractor, store: &[u8], head: u8) -> u8
         return of_record;
     }
     if held::is_entered(x) {
-        return 9;
+        return refusals::MOMENT;
     }
     head
 }
@@ -151,10 +152,10 @@ fn step_refusal(s: Settings, x: Extractor, store: &[u8], frame: &[u8]) -> u8
         return of_record;
     }
     if !held::is_entered(x) {
-        return 9;
+        return refusals::MOMENT;
     }
     if !frames::has_length(s, frame.len()) {
-        return 3;
+        return refusals::LENGTH;
     }
     0
 }

@@ -1,5 +1,5 @@
 -- The judge call by call: over its record, a lent store and a lent frame.
-use Prim.Native.Nat.{ℕ, suc, _+_, _*_}
+use Prim.Native.Nat.{ℕ, _+_, _*_}
 use mathlib.Core.List.{List, [], _∷_}
 use mathlib.Core.Bool.{Bool, true, false, not}
 use lib.ListN.{length}
@@ -9,7 +9,7 @@ use Rattle.frames.specs.Frame.{in-range, count, most-frames}
 use Rattle.frames.specs.declared.Settings.{Settings}
 use Rattle.extractor.specs.Extract.{State, any-torn}
 use Rattle.extractor.specs.Records.{reachable, held-in, stands-for, enter}
-use Rattle.extractor.specs.Calls.{Finds, steps}
+use Rattle.extractor.specs.Calls.{Finds, through}
 use Rattle.extractor.specs.declared.Extractor.{Extractor}
 use Rattle.extractor.specs.declared.Extractor.the-variants.{Fresh, InStep}
 use Rattle.judge.specs.Judge.{opened, faulty-entry, Verdict, pass, fault}
@@ -82,7 +82,7 @@ unfoldable pub try-frame : Settings → ℕ → State → List ℕ → List ℕ 
 try-frame s n x store f =
     pick (faulty-entry s x f)
     (judging (faults-at n) store)
-    (stepped-through n (count s f) (steps s f (suc (s .zone)) (enter s x f) store))
+    (stepped-through n (count s f) (through s f (enter s x f) store))
 
 -- the record and the store after a frame
 unfoldable pub judge-frame : Settings → List ℕ → Judge → List ℕ → Judging

@@ -3,6 +3,7 @@ ghost use mathlib.Core.Path.{_≡_};
 ghost use Rattle.judge.specs.Calls.{frame-says, frame-call, close-says, close-call};
 use frames::MOST_FRAMES;
 use frames::Settings;
+use octets::refusals;
 
 mod record;
 mod trial;
@@ -32,9 +33,6 @@ pub enum Closed {
     Fault { at: u32 },
 }
 
-// A frame beyond the last that a run can have.
-const REFUSED_LAST: u8 = 11;
-
 // One whole frame of the run. Up to the first fault the store changes as the extractor's steps change it.
 pub fn frame(s: Settings, j: Judge, store: &mut [u8], frame: &[u8]) -> Judged
     ensures { λ r. ⌜ frame-says r (now (store .exit)) ≡ frame-call s (now (store .entry)) j (now (frame .entry)) ⌝ }
@@ -45,7 +43,7 @@ pub fn frame(s: Settings, j: Judge, store: &mut [u8], frame: &[u8]) -> Judged
     }
     if MOST_FRAMES <= record::tally_of(j) {
         return Judged {
-            refusal: REFUSED_LAST,
+            refusal: refusals::FRAMES,
             next: j,
         };
     }

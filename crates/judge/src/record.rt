@@ -9,9 +9,7 @@ use crate::Judge;
 use extractor::Extractor;
 use frames::MOST_FRAMES;
 use frames::Settings;
-
-// No frames lead to the record.
-const REFUSED_RECORD: u8 = 10;
+use octets::refusals;
 
 // The frames that it has seen.
 pub(crate) fn tally_of(j: Judge) -> u32
@@ -57,7 +55,7 @@ pub(crate) fn refusal(s: Settings, j: Judge, store: &[u8]) -> u8
         return holding;
     }
     if !counts_well(s, j) {
-        return REFUSED_RECORD;
+        return refusals::RECORD;
     }
     0
 }

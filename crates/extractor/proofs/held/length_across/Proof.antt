@@ -13,9 +13,9 @@ use Rattle.extractor.proofs.held.length_across.Statement.{statement}
 use Rattle.extractor.proofs.held.length_across.Tie as tie
 
 -- the octets are within the buffer
-within : (c : tie.After-start-of) → c .start-of .result .n ≤ length (c .start-of .result .octets)
+within : (c : tie.After-start-of) → c .start-of .result .n ≤ length (c .start-of .result .front)
 within c =
-    let l : length (c .start-of .result .octets) ≡ 8 = search needs in
+    let l : length (c .start-of .result .front) ≡ 8 = search needs in
     omega arith
 
 slice-aggregate-read-length : tie.Need-slice-aggregate-read-length
@@ -28,8 +28,8 @@ returns c =
     let held : length (take (a .held) (a .store .now)) ≡ a .held = length-take-le _ _ (at-start .pre .0 .1) in
     c .read-length .ensures ∙ look-eight (a .limit) (take (a .held) (a .store .now)) _ (at-start .pre .0 .0) (omega arith)
 
-array-share-prefix-octets : tie.Need-array-share-prefix-octets
-array-share-prefix-octets c = within (c .before)
+array-share-prefix-front : tie.Need-array-share-prefix-front
+array-share-prefix-front c = within (c .before)
 
 slice-aggregate-read-length-2 : tie.Need-slice-aggregate-read-length-2
 slice-aggregate-read-length-2 c = sym (length-take-le _ _ (within (c .before .before)))
@@ -47,7 +47,7 @@ length-across-spec =
     (λ c κs. search needs)
     returns
     (λ c κs. search needs)
-    array-share-prefix-octets
+    array-share-prefix-front
     slice-aggregate-read-length-2
     (λ c κs. search needs)
     returns-2)
