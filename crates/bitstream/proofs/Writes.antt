@@ -12,11 +12,11 @@ use Rattle.octets.specs.Basics.{pick, over, first}
 use Rattle.octets.proofs.Choices.{and-true, none-holds, or-false, pick-lt}
 use Rattle.octets.proofs.Written.{over-over}
 use Rattle.frames.specs.Link.{count-width, next-count}
-use Rattle.frames.specs.BitFrame.{bits-in-range, bit-frame-length, bit-head, bit-head-rows, most-bits}
+use Rattle.frames.specs.BitFrame.{bits-in-range, bit-frame-length, bit-head, bit-head-rows, most-width, most-bits}
 use Rattle.frames.specs.declared.bits.BitSettings.{BitSettings}
 use Rattle.frames.proofs.bits.Settled.{BitsSettled, bits-settled}
 use Rattle.frames.proofs.bits.Heads.{bit-head-taken, length-bit-head}
-use Rattle.bitstream.specs.Bitstream.{octets-for, most-width, pointer-for, writer-reachable, write-rows, frame-with, zone-with, wrote, written}
+use Rattle.bitstream.specs.Bitstream.{octets-for, pointer-for, writer-reachable, write-rows, frame-with, zone-with, wrote, written}
 use Rattle.bitstream.specs.declared.Writer.{Writer}
 use Rattle.bitstream.proofs.Pointers.{pointer-used}
 

@@ -31,10 +31,6 @@ bit-at os i = read (bit-place (i % 8)) (getD os (i / 8) 0)
 
 -- ---- the zone
 
--- the greatest W
-abbrev pub most-width : ℕ
-most-width = 2047
-
 -- the pointer of a zone with n bits
 unfoldable pub pointer-for : BitSettings → ℕ → ℕ
 pointer-for s n = pick (eqb n 0) fill-only (pick (eqb n (most-bits s)) all-valid (n - 1))

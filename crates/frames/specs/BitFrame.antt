@@ -18,9 +18,13 @@ fill-only = 16382
 abbrev pub all-valid : ℕ
 all-valid = 16383
 
+-- the greatest W
+abbrev pub most-width : ℕ
+most-width = 2047
+
 -- W 1 to 2,047
 unfoldable pub bits-in-range : BitSettings → Bool
-bits-in-range s = and (link-in-range (s .link)) (and (leb 1 (s .width)) (leb (s .width) 2047))
+bits-in-range s = and (link-in-range (s .link)) (and (leb 1 (s .width)) (leb (s .width) most-width))
 
 -- how many bits the zone has
 abbrev pub most-bits : BitSettings → ℕ

@@ -23,7 +23,7 @@ pub const FILL_ONLY: u16 = 16382;
 pub const ALL_VALID: u16 = 16383;
 
 // A zone has so many octets at most.
-const MOST_WIDTH: usize = 2047;
+pub const MOST_WIDTH: usize = 2047;
 
 // The bits of the pointer.
 const POINTER_WIDTH: u32 = 14;

@@ -4,6 +4,7 @@ ghost use lib.Dec.{ltb, eqb};
 ghost use Rattle.octets.specs.Basics.{pick, first, over};
 ghost use Rattle.frames.specs.Link.{link-in-range, missing};
 ghost use Rattle.frames.specs.Frame.{in-range, frame-length, packet-shape, heading, head, head-rows};
+use octets::limits;
 use octets::refusals;
 use shape::Shape;
 
@@ -43,22 +44,11 @@ pub const ZONE_AT: usize = 8;
 // So many counts are on the wheel.
 pub const WHEEL: u32 = 16777216;
 
-// A setting or an argument is out of range.
-pub const REFUSED_SETTING: u8 = 1;
-
-// A lent buffer is too short.
-pub const REFUSED_ROOM: u8 = 2;
-
 // A judged run has so many frames at most.
 pub const MOST_FRAMES: u32 = 16777216;
 
 // A zone has so many octets at most.
 const MOST_ZONE: usize = 2046;
-
-// The least and the greatest M.
-const LEAST_LIMIT: usize = 7;
-
-const MOST_LIMIT: usize = 65542;
 
 // The bits of the pointer.
 const POINTER_WIDTH: u32 = 11;
@@ -75,7 +65,7 @@ pub(crate) fn link_in_range(l: Link) -> bool
 pub fn in_range(s: Settings) -> bool
     ensures { λ r. ⌜ r ≡ in-range s ⌝ }
 {
-    let limit = (s.zone <= s.limit) & ((LEAST_LIMIT <= s.limit) & (s.limit <= MOST_LIMIT));
+    let limit = (s.zone <= s.limit) & ((limits::LEAST <= s.limit) & (s.limit <= limits::MOST));
     link_in_range(s.link) & ((1 <= s.zone) & ((s.zone <= MOST_ZONE) & limit))
 }
 

@@ -13,11 +13,9 @@ use extractor::Found;
 use frames::Link;
 use frames::Settings;
 use frames::ZONE_AT;
+use frames::bits::MOST_WIDTH;
 use multiplexer::Mux;
 use multiplexer::Reply;
-
-// A zone of either channel has so many octets at most.
-const LONGEST_ZONE: usize = 2047;
 
 // The end that packets come out of: the extractor, and the store of what it holds.
 pub(crate) struct Receiver {
@@ -90,11 +88,7 @@ pub(crate) fn label(e: Ends, line: &[u8], from: usize) -> Ends {
 // The octets of a frame; 0 where the zone is out of range.
 pub(crate) fn frame_length(s: Settings) -> usize {
     let zone = s.zone;
-    if zone > LONGEST_ZONE {
-        0
-    } else {
-        zone + ZONE_AT
-    }
+    if zone > MOST_WIDTH { 0 } else { zone + ZONE_AT }
 }
 
 fn entered(e: Entry) {
@@ -140,7 +134,7 @@ fn found<'a>(limit: usize, frame: &'a [u8], store: &'a [u8], f: Found) -> bool {
 fn walk(s: Settings, r: Receiver, frame: &[u8]) -> Receiver {
     let mut x = r.extractor;
     let mut store = r.store;
-    let mut left = LONGEST_ZONE;
+    let mut left = MOST_WIDTH;
     while left > 0 {
         let step = extractor::step(s, x, &mut store, frame);
         x = step.next;
