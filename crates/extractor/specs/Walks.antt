@@ -40,7 +40,7 @@ pub record Walks (s : Settings) (h at : ℕ) (store f : List ℕ) : Type 0 where
   pub holds : h ≤ length store
   pub framed : length f ≡ frame-length s
 
--- the record of a walk that has ended: damage leaves it out of step
+-- the record of a frame of which nothing is left to walk: damage leaves it out of step
 abbrev pub at-rest : Extractor → Extractor
 at-rest Fresh = Fresh
 at-rest (Astray last) = Astray last

@@ -99,38 +99,7 @@ fn complete(s: Settings, last: u32, held: usize, store: &mut [u8], frame: &[u8])
     }
 }
 
-// One step of a call that is not refused.
-pub(crate) fn moved(s: Settings, x: Extractor, store: &mut [u8], frame: &[u8]) -> Move
-    requires { ⌜ first (step-rows s x (now store) (now frame)) ≡ 0 ⌝ }
-    ensures { λ r. ⌜ stepped r (now (store .exit)) ≡ step s (now (frame .entry)) (now (store .entry)) x ⌝ }
-{
-    match x {
-        Extractor::Fresh => Move {
-            found: Found::Spent,
-            next: x,
-        },
-        Extractor::Astray { .. } => Move {
-            found: Found::Spent,
-            next: x,
-        },
-        Extractor::InStep { .. } => Move {
-            found: Found::Spent,
-            next: x,
-        },
-        Extractor::Walking { last, held, at } => {
-            if held == 0 {
-                return walk(s, last, at, store, frame);
-            }
-            complete(s, last, held, store, frame)
-        }
-        Extractor::Leaving { last } => Move {
-            found: Found::Spent,
-            next: Extractor::Astray { last },
-        },
-    }
-}
-
-// The record of a walk that has ended: damage leaves it out of step.
+// The record of a frame of which nothing is left to walk: damage leaves it out of step.
 fn at_rest(x: Extractor) -> Extractor
     ensures { λ r. ⌜ r ≡ at-rest x ⌝ }
 {
@@ -138,6 +107,23 @@ fn at_rest(x: Extractor) -> Extractor
         return x;
     };
     Extractor::Astray { last }
+}
+
+// One step of a call that is not refused.
+pub(crate) fn moved(s: Settings, x: Extractor, store: &mut [u8], frame: &[u8]) -> Move
+    requires { ⌜ first (step-rows s x (now store) (now frame)) ≡ 0 ⌝ }
+    ensures { λ r. ⌜ stepped r (now (store .exit)) ≡ step s (now (frame .entry)) (now (store .entry)) x ⌝ }
+{
+    let Extractor::Walking { last, held, at } = x else {
+        return Move {
+            found: Found::Spent,
+            next: at_rest(x),
+        };
+    };
+    if held == 0 {
+        return walk(s, last, at, store, frame);
+    }
+    complete(s, last, held, store, frame)
 }
 
 // All the steps from `at` on, with nothing held: the record after the last one.
