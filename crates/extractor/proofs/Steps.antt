@@ -2,14 +2,18 @@
 -- Assumes nothing.
 use mathlib.Core.Path.{_≡_, refl, sym, ap, ap₂, subst, _∙_}
 use mathlib.Core.List.{List, [], _∷_, _++_}
-use mathlib.Core.Bool.{Bool}
+use mathlib.Core.Logic.{_⊎_, inl, inr}
+use mathlib.Core.Bool.{Bool, true, false}
 use Prim.Native.Nat.{ℕ, zero, suc, _+_, _-_, _≤_, _<_}
 use native.Mathlib.Nat.{sub-zero, zero-sub, suc-sub-suc}
 use native.Mathlib.Omega.{arith}
 use lib.ListN.{length, take, drop, length-append}
 use lib.Seq.{take-take, take-nil, take-append-add, drop-nil, drop-drop, length-take-le}
-use borrow.Author.Tests.{le-leb, lt-leb, eq-eqb, ne-eqb}
+use lib.Dec.{ltb}
+use borrow.Author.Tests.{le-leb, lt-leb, ltb-true, ltb-false, eq-eqb, ne-eqb}
 use Rattle.octets.specs.Basics.{over, laid-part}
+use Rattle.octets.proofs.Choices.{apart}
+use Rattle.octets.proofs.Tests.{test}
 use Rattle.octets.proofs.Written.{length-run, part-within, over-take}
 use Rattle.packets.specs.Packet.{whole, look, is-idle}
 use Rattle.packets.specs.Header.{seen}
@@ -21,7 +25,7 @@ use Rattle.frames.specs.Frame.{zone-of, frame-length}
 use Rattle.frames.specs.declared.Settings.{Settings}
 use Rattle.frames.proofs.Settled.{settled}
 use Rattle.extractor.specs.Records.{step, step-look, handed-over, steps-to, kept-for-later}
-use Rattle.extractor.specs.Walks.{Walks}
+use Rattle.extractor.specs.Walks.{at-hand, Walks}
 use Rattle.extractor.specs.declared.Extractor.the-variants.{Walking, Leaving}
 use Rattle.extractor.specs.declared.Found.the-variants.{InFrame, InStore, Damaged}
 
@@ -30,6 +34,39 @@ drop-take zero n l = ap (λ (k : ℕ). take k l) (sym (sub-zero n))
 drop-take (suc a) zero l = drop-nil (suc a) ∙ ap (λ (k : ℕ). take k (drop (suc a) l)) (sym (zero-sub (suc a)))
 drop-take (suc a) (suc n) [] = sym (take-nil (suc n - suc a))
 drop-take (suc a) (suc n) (x ∷ l) = drop-take a n l ∙ ap (λ (k : ℕ). take k (drop a l)) (sym (suc-sub-suc n a))
+
+-- what is at hand says of the length that was read
+hand-more : (n : ℕ) (r : Seen) → at-hand n r ≡ More → (r ≡ More) ⊎ ((l : ℕ) × (r ≡ Whole l) × (n < l))
+unfolding at-hand
+hand-more n More e = inl refl
+hand-more n Seen.Damaged e = apart (cc)
+hand-more n (Whole l) e = test (ltb n l) (λ t. inr (l, refl, ltb-true n l t)) (λ t. absurd (longer (rw t at e)))
+  where
+    longer : Whole l ≡ More → ⊥
+    longer e = apart (cc)
+
+hand-damaged : (n : ℕ) (r : Seen) → at-hand n r ≡ Seen.Damaged → r ≡ Seen.Damaged
+unfolding at-hand
+hand-damaged n More e = e
+hand-damaged n Seen.Damaged e = refl
+hand-damaged n (Whole l) e = test (ltb n l) (λ t. absurd (other (rw t at e))) (λ t. rw t at e)
+  where
+    other : More ≡ Seen.Damaged → ⊥
+    other e = apart (cc)
+
+hand-whole : (n : ℕ) (r : Seen) {l : ℕ} → at-hand n r ≡ Whole l → (r ≡ Whole l) × (l ≤ n)
+unfolding at-hand
+hand-whole n More e = apart (cc)
+hand-whole n Seen.Damaged e = apart (cc)
+hand-whole n (Whole k) {l} e =
+    test (ltb n k) (λ t. absurd (other (rw t at e)))
+    (λ t. let same : Whole k ≡ Whole l = rw t at e in (same, its-own same (ltb-false n k t)))
+  where
+    other : More ≡ Whole l → ⊥
+    other e = apart (cc)
+
+    its-own : Whole k ≡ Whole l → k ≤ n → l ≤ n
+    its-own e h = let same : k ≡ l = cc in rw (← same) h
 
 -- the zone's octets from `at`, where they lie in the frame
 abbrev pub left : Settings → ℕ → List ℕ → List ℕ
@@ -75,15 +112,15 @@ module _ {s : Settings} {h at : ℕ} {store f : List ℕ} (w : Walks s h at stor
     unfolding step
     at-look = rw (told, zone-left s at f) refl
 
-    pub step-more : r ≡ More → kept-for-later store last h (left s at f) ≡ step s f store (Walking last h at)
+    step-more : r ≡ More → kept-for-later store last h (left s at f) ≡ step s f store (Walking last h at)
     unfolding seen step-look
     step-more q = sym (at-look ∙ ap (λ (x : Seen). step-look s store last h at (left s at f) (seen x)) q)
 
-    pub step-damaged : r ≡ Seen.Damaged → steps-to Damaged (Leaving last) store ≡ step s f store (Walking last h at)
+    step-damaged : r ≡ Seen.Damaged → steps-to Damaged (Leaving last) store ≡ step s f store (Walking last h at)
     unfolding seen step-look
     step-damaged q = sym (at-look ∙ ap (λ (x : Seen). step-look s store last h at (left s at f) (seen x)) q)
 
-    pub more-room : r ≡ More → h + (8 + s .zone - (8 + at)) ≤ length store
+    more-room : r ≡ More → h + (8 + s .zone - (8 + at)) ≤ length store
     unfolding seen
     more-room q = omega (arith, more-short (s .limit) both some-room (sym told ∙ ap seen q), length-both, plain w)
 
@@ -92,10 +129,10 @@ module _ {s : Settings} {h at : ℕ} {store f : List ℕ} (w : Walks s h at stor
       unfolding seen
       its-length = ap seen q
 
-      pub whole-limit : l ≤ s .limit
+      whole-limit : l ≤ s .limit
       whole-limit = look-bounds (s .limit) both some-room (sym told ∙ its-length) .1
 
-      pub step-later : h + (8 + s .zone - (8 + at)) < l → kept-for-later store last h (left s at f) ≡ step s f store (Walking last h at)
+      step-later : h + (8 + s .zone - (8 + at)) < l → kept-for-later store last h (left s at f) ≡ step s f store (Walking last h at)
       unfolding step-look
       step-later k =
           sym (at-look ∙ ap (step-look s store last h at (left s at f)) its-length
@@ -148,3 +185,25 @@ module _ {s : Settings} {h at : ℕ} {store f : List ℕ} (w : Walks s h at stor
                 subst (λ (n : ℕ). take (h + n) os ≡ take h store ++ take (l - h) (left s at f)) added (over-take store h (take (l - h) (left s at f)) (w .holds))
                 ∙ sym (subst (λ (n : ℕ). take (n + (l - h)) both ≡ take h store ++ take (l - h) (left s at f)) held (take-append-add (take h store) (left s at f) (l - h))) in
                 sym (take-take l (h + (l - h)) os (omega arith)) ∙ ap (take l) front ∙ take-take l (h + (l - h)) both (omega arith)
+
+    -- by the octets that are at hand: those held, and the zone's from `at`
+    module _ {n : ℕ} (many : n ≡ h + (8 + s .zone - (8 + at))) {there : Seen} (cut : there ≡ at-hand n r) where
+      pub step-torn : there ≡ Seen.Damaged → steps-to Damaged (Leaving last) store ≡ step s f store (Walking last h at)
+      step-torn q = step-damaged (hand-damaged n r (sym cut ∙ q))
+
+      pub step-kept : there ≡ More → kept-for-later store last h (left s at f) ≡ step s f store (Walking last h at)
+      step-kept q = by (hand-more n r (sym cut ∙ q))
+        where
+          by : (r ≡ More) ⊎ ((l : ℕ) × (r ≡ Whole l) × (n < l)) → kept-for-later store last h (left s at f) ≡ step s f store (Walking last h at)
+          by (inl e) = step-more e
+          by (inr (l, e, k)) = step-later e (omega (arith, many, k))
+
+      pub kept-room : there ≡ More → h + (8 + s .zone - (8 + at)) ≤ length store
+      kept-room q = by (hand-more n r (sym cut ∙ q))
+        where
+          by : (r ≡ More) ⊎ ((l : ℕ) × (r ≡ Whole l) × (n < l)) → h + (8 + s .zone - (8 + at)) ≤ length store
+          by (inl e) = more-room e
+          by (inr (l, e, k)) = omega (arith, many, k, whole-limit e, plain w)
+
+      pub whole-there : {l : ℕ} → there ≡ Whole l → (r ≡ Whole l) × (l ≤ h + (8 + s .zone - (8 + at)))
+      whole-there {l} q = let (e, k) = hand-whole n r (sym cut ∙ q) in (e, omega (arith, many, k))

@@ -4,12 +4,14 @@ use mathlib.Core.List.{List}
 use mathlib.Core.Bool.{Bool, true}
 use Prim.Native.Nat.{ℕ, _≤_}
 use lib.ListN.{length}
-use lib.Dec.{leb, eqb}
+use lib.Dec.{leb, ltb, eqb}
 use Rattle.octets.specs.Basics.{pick, and}
 use Rattle.frames.specs.Frame.{in-range, frame-length, pointer, heading}
 use Rattle.frames.specs.declared.Settings.{Settings}
 use Rattle.frames.specs.declared.Heading.{Heading}
 use Rattle.extractor.specs.Records.{holds-well, on-wheel}
+use Rattle.packets.specs.declared.Seen.{Seen}
+use Rattle.packets.specs.declared.Seen.the-variants.{More, Damaged, Whole}
 use Rattle.extractor.specs.declared.Extractor.{Extractor}
 use Rattle.extractor.specs.declared.Extractor.the-variants.{Fresh, Astray, InStep, Walking, Leaving}
 
@@ -27,6 +29,12 @@ at-in (Astray last) = 0
 at-in (InStep last h) = 0
 at-in (Walking last h at) = at
 at-in (Leaving last) = 0
+
+-- what octets say of their packet's length where n of them are at hand: a packet that is longer is not whole yet
+unfoldable pub at-hand : ℕ → Seen → Seen
+at-hand n More = More
+at-hand n Damaged = Damaged
+at-hand n (Whole total) = pick (ltb n total) More (Whole total)
 
 -- whether the rules can reach a record with these numbers
 unfoldable pub reached : Settings → List ℕ → ℕ → ℕ → ℕ → Bool

@@ -10,7 +10,7 @@ ghost use Rattle.packets.specs.Packet.{look};
 ghost use Rattle.packets.specs.Header.{seen};
 ghost use Rattle.frames.specs.declared.Settings.{Settings};
 ghost use Rattle.extractor.specs.Records.{unfinished, holds-well, reachable, is-entered, held-in};
-ghost use Rattle.extractor.specs.Walks.{last-in, at-in, reached};
+ghost use Rattle.extractor.specs.Walks.{last-in, at-in, reached, at-hand};
 use crate::Extractor;
 use frames::WHEEL;
 use octets::refusals;
@@ -67,7 +67,23 @@ fn unfinished(n: usize, length: Seen) -> bool
     }
 }
 
-// Whether the first octets of the store are such, or none are held. No more than their header is read.
+// What octets say of their packet's length where n of them are at hand: a packet that is longer is not whole yet.
+pub(crate) fn at_hand(n: usize, length: Seen) -> Seen
+    ensures { λ r. ⌜ r ≡ at-hand n length ⌝ }
+{
+    match length {
+        Seen::More => Seen::More,
+        Seen::Damaged => Seen::Damaged,
+        Seen::Whole { total } => {
+            if n < total {
+                return Seen::More;
+            }
+            Seen::Whole { total }
+        }
+    }
+}
+
+// Whether so many octets at the front of the store begin a packet and do not end it, or none are held. No more than their header is read.
 fn holds_well(limit: usize, store: &[u8], held: usize) -> bool
     ensures { λ r. ⌜ ((s : Settings) → limit ≡ s .limit → r ≡ holds-well s (now (store .entry)) held) ⌝ }
 {

@@ -10,6 +10,7 @@ ghost use Rattle.extractor.specs.Walks.{Walks, at-rest};
 use crate::Extractor;
 use crate::Found;
 use crate::Move;
+use crate::held::at_hand;
 use crate::held::length_across;
 use frames::Settings;
 use frames::ZONE_AT;
@@ -56,13 +57,10 @@ fn walk(s: Settings, last: u32, at: usize, store: &mut [u8], frame: &[u8]) -> Mo
     let from = ZONE_AT + at;
     let to = ZONE_AT + s.zone;
     let left = &frame[from..to];
-    match packets::read_length(s.limit, left) {
+    match at_hand(to - from, packets::read_length(s.limit, left)) {
         Seen::Damaged => abandoned(last),
         Seen::More => keep(last, 0, store, frame, from, to),
         Seen::Whole { total } => {
-            if to - from < total {
-                return keep(last, 0, store, frame, from, to);
-            }
             let found = Found::InFrame {
                 start: from,
                 size: total,
@@ -80,13 +78,11 @@ fn complete(s: Settings, last: u32, held: usize, store: &mut [u8], frame: &[u8])
     ensures { λ r. ⌜ stepped r (now (store .exit)) ≡ step s (now (frame .entry)) (now (store .entry)) (Extractor.Walking last held 0) ⌝ }
 {
     let to = ZONE_AT + s.zone;
-    match length_across(s.limit, store, held, frame, ZONE_AT, to) {
+    let length = length_across(s.limit, store, held, frame, ZONE_AT, to);
+    match at_hand(held + s.zone, length) {
         Seen::Damaged => abandoned(last),
         Seen::More => keep(last, held, store, frame, ZONE_AT, to),
         Seen::Whole { total } => {
-            if held + s.zone < total {
-                return keep(last, held, store, frame, ZONE_AT, to);
-            }
             let rest = octets::rest(total, held);
             octets::lay(store, held, frame, ZONE_AT, ZONE_AT + rest);
             let found = Found::InStore {
