@@ -1,6 +1,6 @@
 -- The steps of a frame come to an end, whatever record they set out from.
 -- Assumes nothing.
-use mathlib.Core.Path.{_≡_, refl, sym, ap, _∙_, subst}
+use mathlib.Core.Path.{_≡_, refl, subst}
 use mathlib.Core.List.{List}
 use mathlib.Core.Bool.{true, false}
 use Prim.Native.Nat.{ℕ, _+_, _-_, _<_}
@@ -11,8 +11,8 @@ use Rattle.octets.specs.Basics.{first}
 use Rattle.octets.proofs.Choices.{apart}
 use Rattle.octets.proofs.Tests.{test}
 use Rattle.frames.specs.declared.Settings.{Settings}
-use Rattle.extractor.specs.Records.{step, step-rows, step-call, Stepped}
-use Rattle.extractor.specs.Answers.{step-says, step-answer, stepped}
+use Rattle.extractor.specs.Records.{step-rows, step-call, Stepped}
+use Rattle.extractor.specs.Answers.{step-says, step-answer}
 use Rattle.extractor.specs.Calls.{goes-on}
 use Rattle.extractor.specs.declared.Extractor.{Extractor}
 use Rattle.extractor.specs.declared.Extractor.the-variants.{Fresh, Astray, InStep, Walking, Leaving}

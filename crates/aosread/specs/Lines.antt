@@ -4,11 +4,10 @@ use Prim.Native.Char.{code}
 use Prim.Native.String.{String, [] as no-more, _∷_ as _then_}
 use mathlib.Core.Path.{_≡_}
 use mathlib.Core.List.{List, [], _∷_, _++_}
-use mathlib.Core.Bool.{Bool, true, false}
+use mathlib.Core.Bool.{true, false}
 use lib.ListN.{length}
 use lib.Dec.{ltb}
 use Rattle.octets.specs.Basics.{pick, over}
-use Rattle.packets.specs.declared.Kind.{Kind}
 use Rattle.packets.specs.declared.Kind.the-variants.{Space, Encapsulation}
 use Rattle.packets.specs.declared.Header.{Header}
 use Rattle.packets.specs.declared.Header.the-variants.{Whole}

@@ -1,21 +1,17 @@
 -- The bits of an octet that is mixed from two, and octets by their bits.
 -- Assumes nothing.
-use mathlib.Core.Path.{_≡_, sym, ap, subst, _∙_}
-use mathlib.Core.List.{List}
-use Prim.Native.Nat.{ℕ, zero, suc, _+_, _-_, _*_, _/_, _%_, _^_, _≤_, _<_}
-use native.Mathlib.Nat.{div-one, mod-one, mod-eq-of-lt}
+use mathlib.Core.Path.{_≡_, sym, ap, _∙_}
+use Prim.Native.Nat.{ℕ, _+_, _-_, _/_, _%_, _^_, _≤_, _<_}
+use native.Mathlib.Nat.{div-one}
 use native.Mathlib.Omega.{arith}
-use lib.ListN.{length, getD}
-use lib.Seq.{ext-getD}
 use lib.Dec.{ltb}
 use lib.Pow.{mod-mod-pow}
 use lib.Pow as pow
 use borrow.Author.Tests.{lt-ltb, le-ltb}
-use Rattle.octets.specs.Basics.{AllOctets, pick, field, read}
+use Rattle.octets.specs.Basics.{pick, field, read}
 use Rattle.octets.proofs.Choices.{split}
-use Rattle.octets.proofs.Fields.{placed-read, placed-above, placed-lt, agree-on}
-use Rattle.octets.proofs.Fronts.{octet-lt}
-use Rattle.bitstream.specs.Bitstream.{mixed, bit-place, bit-at}
+use Rattle.octets.proofs.Fields.{placed-read, placed-above, placed-lt}
+use Rattle.bitstream.specs.Bitstream.{mixed, bit-place}
 
 -- a field that lies in the low bits of a word goes by these alone
 field-low : (word low place width : ℕ) → width + place ≤ low → field (word % 2 ^ low) place width ≡ field word place width
@@ -57,25 +53,3 @@ module _ (k bits fill : ℕ) (within : k ≤ 8) (octet : bits < 256) where
       (λ before. rw (lt-ltb i k before) (high-bits i before))
 
 -- ---- the bits say all
-
-octet-by-bits : (a b : ℕ) → a < 256 → b < 256 → ((i : ℕ) → i < 8 → read (bit-place i) a ≡ read (bit-place i) b) → a ≡ b
-octet-by-bits a b h k e =
-    sym (mod-eq-of-lt h) ∙ agree 8 (omega arith) ∙ mod-eq-of-lt k
-  where
-    agree : (i : ℕ) → i ≤ 8 → a % 2 ^ i ≡ b % 2 ^ i
-    agree zero l = mod-one a ∙ sym (mod-one b)
-    agree (suc i) l =
-        let back : 7 - (7 - i) ≡ i = omega arith in
-        let bit : field a i 1 ≡ field b i 1 = rw back at (e (7 - i) (omega arith)) in
-        subst (λ (k : ℕ). a % 2 ^ k ≡ b % 2 ^ k) (omega arith) (agree-on a b i 1 (agree i (omega arith)) bit)
-
--- lists of as many octets with the same bits are the same
-pub octets-by-bits : (a b : List ℕ) → AllOctets a → AllOctets b → length a ≡ length b → ((i : ℕ) → i < 8 * length a → bit-at a i ≡ bit-at b i) → a ≡ b
-unfolding bit-at
-octets-by-bits a b p q h e =
-    ext-getD 0 a b h
-    (λ j k. octet-by-bits (getD a j 0) (getD b j 0) (octet-lt a p j) (octet-lt b q j)
-    (λ i l.
-    let octet : (8 * j + i) / 8 ≡ j = omega arith in
-    let place : (8 * j + i) % 8 ≡ i = omega arith in
-    rw (octet, place) at (e (8 * j + i) (omega arith))))

@@ -7,6 +7,5 @@ pub mod Writes
 pub mod Readings
 pub mod Pointers
 pub mod ReadBack
-pub mod Flags
 pub mod Reached
 pub mod Passes

@@ -1,15 +1,14 @@
 -- What is written is read back, and what is read has its bits where they are said to be.
 -- Assumes nothing.
 use mathlib.Core.Path.{_≡_, refl, sym, ap, _∙_}
-use mathlib.Core.List.{List, []}
-use mathlib.Core.Bool.{Bool, true, false}
+use mathlib.Core.List.{List}
+use mathlib.Core.Bool.{Bool, true}
 use Prim.Native.Nat.{ℕ, _+_, _/_, _%_, _^_, _≤_, _<_}
 use native.Mathlib.Omega.{arith}
 use lib.ListN.{length, take, drop, length-append, length-drop}
 use lib.Seq.{take-at, drop-at, getD-take, length-take-le}
-use lib.Dec.{leb, eqb}
 use borrow.Author.Tests.{le-leb, lt-ltb, eq-eqb}
-use Rattle.octets.specs.Basics.{AllOctets, pick, and, read, over, first}
+use Rattle.octets.specs.Basics.{AllOctets, pick, read, over, first}
 use Rattle.octets.proofs.Fields.{field-lt}
 use Rattle.octets.proofs.Fronts.{all-take, all-drop}
 use Rattle.octets.proofs.Written.{over-take}
@@ -190,12 +189,3 @@ module _ (s : BitSettings) (x : Reader) (f : List ℕ) (octets : AllOctets f) (d
     same-head = head-of;
     same-again = again-of;
   }
-
--- no bits, no octets: so it is for a frame that is refused, and for a unit of fill alone
-pub no-bits : (s : BitSettings) (f : List ℕ) → leading-octets s 0 f ≡ []
-unfolding leading-octets octets-for
-no-bits s f = go (and (eqb (length f) (bit-frame-length s)) (leb 0 (most-bits s)))
-  where
-    go : (t : Bool) → pick t (take 0 (bit-zone-of s f)) [] ≡ []
-    go true = refl
-    go false = refl

@@ -1,6 +1,6 @@
 -- The zone that n bits and the fill make: its length, its octets and its bits.
 -- Assumes nothing.
-use mathlib.Core.Path.{_≡_, refl, sym, _∙_}
+use mathlib.Core.Path.{_≡_, refl, _∙_}
 use mathlib.Core.List.{List, _∷_, _++_}
 use Prim.Native.Nat.{ℕ, suc, _+_, _-_, _*_, _/_, _%_, _≤_, _<_}
 use native.Mathlib.Omega.{arith}
@@ -10,10 +10,10 @@ use lib.Dec.{ltb}
 use borrow.Author.Tests.{lt-ltb, le-ltb, eq-eqb, ne-eqb}
 use Rattle.octets.specs.Basics.{AllOctets, pick, read}
 use Rattle.octets.proofs.Choices.{split, leb-iff}
-use Rattle.octets.proofs.Fronts.{octet-lt, all-take, all-append, all-filled}
+use Rattle.octets.proofs.Fronts.{octet-lt}
 use Rattle.frames.specs.declared.bits.BitSettings.{BitSettings}
 use Rattle.bitstream.specs.Bitstream.{octets-for, mixed, last-octet, zone-with, bit-at, bit-place}
-use Rattle.bitstream.proofs.Bits.{mixed-lt, mixed-bit, octets-by-bits}
+use Rattle.bitstream.proofs.Bits.{mixed-bit}
 
 module _ (s : BitSettings) (n : ℕ) (bits : List ℕ) where
   -- the zone where the bits end with an octet, and where they end within one
@@ -88,23 +88,3 @@ module _ (s : BitSettings) (n : ℕ) (bits : List ℕ) (inside : octets-for n �
           let t : ltb i n ≡ ltb (i % 8) (n % 8) = leb-iff (suc i) n (suc (i % 8)) (n % 8) (λ k. omega arith) (λ k. omega arith) in
           rw (e, t, octet-last (omega arith))
           (mixed-bit (n % 8) (getD bits (n / 8) 0) (s .fill) (omega arith) (octet-lt bits octets (n / 8)) (i % 8) (omega arith))
-
-  -- and no other octets have these bits
-  zone-octets : AllOctets bits → s .fill < 256 → AllOctets (zone-with s n bits)
-  unfolding octets-for
-  zone-octets octets fill =
-      let front : AllOctets (take (n / 8) bits) = all-take (n / 8) bits octets in
-      split (n % 8) 0
-      (λ e. rw (zone-whole s n bits (omega arith)) (all-append (take (n / 8) bits) (replicate (s .width - n / 8) (s .fill)) front (all-filled (s .width - n / 8) fill)))
-      (λ e.
-      let last : ℕ = mixed (n % 8) (getD bits (n / 8) 0) (s .fill) in
-      let small : last < 256 = mixed-lt (n % 8) _ (s .fill) (omega arith) (octet-lt bits octets (n / 8)) in
-      let rest : ℕ = s .width - (n / 8 + 1) in
-      rw (zone-mixed s n bits e) (all-append (take (n / 8) bits) (last ∷ replicate rest (s .fill)) front (small, all-filled rest fill)))
-
-  pub zone-only : AllOctets bits → s .fill < 256 → (z : List ℕ) → AllOctets z → length z ≡ s .width
-      → ((i : ℕ) → i < 8 * s .width → bit-at z i ≡ pick (ltb i n) (bit-at bits i) (read (bit-place (i % 8)) (s .fill)))
-      → z ≡ zone-with s n bits
-  zone-only octets fill z p long e =
-      octets-by-bits z (zone-with s n bits) p (zone-octets octets fill) (long ∙ sym length-zone)
-      (λ i h. let inside : i < 8 * s .width = omega arith in e i inside ∙ sym (zone-bit octets i inside))

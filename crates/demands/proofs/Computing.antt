@@ -15,7 +15,7 @@ use Rattle.multiplexer.specs.Calls as multiplexer
 use Rattle.extractor.specs.Extract.{agreed-look, agreed, reason-by, reason-in, lost-since, reason-of, step-of, walked, walk, walk-turns, walk-look, take-in}
 use Rattle.extractor.specs.Records.{unfinished, holds-well, reachable, is-entered, stands-for, enter-rows, set-off, enter, step-rows, handed-over, step-look, step, step-call, shown}
 use Rattle.extractor.specs.Answers.{entered-numbers, enter-answer, found-numbers, step-answer}
-use Rattle.extractor.specs.Calls.{event-at, steps}
+use Rattle.extractor.specs.Calls.{event-at, steps, spend-answer}
 use Rattle.judge.specs.Judge.{is-fault, faulty-entry}
 use Rattle.judge.specs.Calls.{counts-well, judge-reachable, frame-refusals, close-rows, stepped-through, try-frame, judge-frame, frame-call, judge-close, close-says, closes-with, close-call}
 use Rattle.bitstream.specs.Bitstream.{octets-for, pointer-for, valid-bits, mixed, last-octet, zone-with, writer-reachable, write-rows, frame-with, written, reader-reachable, read-rows, loss-flag, leading-octets}
@@ -45,7 +45,7 @@ unfolding frames mux-reachable put-rows filled-frame filled-mux start-now fits-n
 multiplexing = tt
 
 unfoldable pub extracting : Unit {0}
-unfolding frames agreed-look agreed reason-by reason-in lost-since reason-of step-of walked walk walk-turns walk-look take-in unfinished holds-well reachable is-entered stands-for enter-rows set-off enter step-rows handed-over step-look step step-call shown entered-numbers enter-answer found-numbers step-answer event-at steps
+unfolding frames agreed-look agreed reason-by reason-in lost-since reason-of step-of walked walk walk-turns walk-look take-in unfinished holds-well reachable is-entered stands-for enter-rows set-off enter step-rows handed-over step-look step step-call shown entered-numbers enter-answer found-numbers step-answer event-at steps spend-answer
 extracting = tt
 
 unfoldable pub judging : Unit {0}

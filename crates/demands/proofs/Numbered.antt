@@ -202,6 +202,20 @@ stepped = record {
   not-idle = refl;
 }
 
+spent : stepping.Spending
+unfolding computing.extracting
+spent = record {
+  refused = refl;
+  order = refl;
+  completed = refl;
+  walked = refl;
+  damaged = refl;
+  damaged-held = refl;
+  left = refl;
+  appended = refl;
+  begun = refl;
+}
+
 judged : judging.Faults
 unfolding computing.judging
 judged = record {
@@ -319,6 +333,7 @@ numbers = record {
     multiplexed = multiplexed;
     entered = entered;
     stepped = stepped;
+    spent = spent;
     judged = judged;
     closed = closed;
     wrapped = wrapped;

@@ -69,9 +69,35 @@ short : arrays.Short
 unfolding computing.arrays
 short = record { packets = refl; space = refl; mux = refl; extractor = refl; judge = refl; bits = refl }
 
+outside : arrays.Outside
+unfolding computing.arrays
+outside = record {
+  put = refl;
+  flush = refl;
+  enter = refl;
+  step = refl;
+  judge = refl;
+  close = refl;
+  write = refl;
+  read = refl;
+  limit = refl;
+  wrap = refl;
+  space = refl;
+}
+
 refused : arrays.Refused
 unfolding computing.arrays
-refused = record { kinds = refl; judge = refl; count = refl; reader = refl; fill = refl; limit = refl; first-read = refl }
+refused = record {
+  entered = refl;
+  stepped = refl;
+  judged = refl;
+  closed = refl;
+  flushed = refl;
+  written = refl;
+  read = refl;
+  no-space = refl;
+  first-read = refl;
+}
 
 pub in-c : arrays.InC
-in-c = record { short = short; refused = refused; stated = stated; packets = packets; multiplexer = multiplexer; extractor = extractor; judge = judge; bits = bits }
+in-c = record { short = short; outside = outside; refused = refused; stated = stated; packets = packets; multiplexer = multiplexer; extractor = extractor; judge = judge; bits = bits }

@@ -25,6 +25,7 @@ use Rattle.multiplexer.specs.Calls.{Call, to-put, to-flush, to-idle, call-rows,
 use Rattle.multiplexer.specs.declared.Mux.{Mux}
 use Rattle.extractor.specs.Records.{checked, enter-rows, steps-to, step-rows, step, step-call}
 use Rattle.extractor.specs.Answers.{refused-entry, entered-as, enter-answer, refused-step, said, found-numbers, step-answer}
+use Rattle.extractor.specs.Calls.{spend-answer}
 use Rattle.extractor.specs.declared.Found.the-variants.{Refused}
 use Rattle.judge.specs.Calls.{judging, judge-frame, frame-refusals, answers-frame, frame-call, judge-close, close-rows, close-says, closes-with, close-call}
 use Rattle.judge.specs.declared.Closed.{Closed}
@@ -87,7 +88,7 @@ headed rows c r p =
     (λ n. record { refusal = n; count = 0; replay = 0; pointer = 0 }) refl refl (λ n. refl)
 
 pub only-these : OnlyThese
-unfolding put-rows flush-rows idle-rows enter-rows frame-rows header-rows step-rows frame-refusals close-rows wrap-rows unwrap-rows space-rows write-rows read-rows bit-frame-rows heading-rows bit-heading-rows written-rows head-rows bit-head-rows heading bit-heading idle-packet-rows space-read-rows space-reading space-reads enter-answer step-answer step-call found-numbers frame-call close-call close-says wrapping unwrapping space-writing written reading
+unfolding put-rows flush-rows idle-rows enter-rows frame-rows header-rows step-rows frame-refusals close-rows wrap-rows unwrap-rows space-rows write-rows read-rows bit-frame-rows heading-rows bit-heading-rows written-rows head-rows bit-head-rows heading bit-heading idle-packet-rows space-read-rows space-reading space-reads enter-answer step-answer step-call found-numbers spend-answer frame-call close-call close-says wrapping unwrapping space-writing written reading
 only-these = record {
   put = λ s m p frame. called s m (to-put p) frame;
   flush = λ s m frame. called s m to-flush frame;
@@ -100,6 +101,7 @@ only-these = record {
       (λ n. record { answer = refused-step n; next = x; store = store })
       (through (said f) (eqb (first (step-rows s x store f)) 0) (step s f store x) (steps-to (Refused (first (step-rows s x store f))) x store))
       (unrefused s f store x) (λ n. refl);
+  spend = λ s x store f. first-among (step-rows s x store f);
   held = λ s x store. first-among (checked s x store []);
   judge = λ s store j f.
       among (λ a. a .refusal) (frame-refusals s store j) (answers-frame 0 (judge-frame s store j f)) (λ n. answers-frame n (judging j store))

@@ -58,6 +58,7 @@ pub record Outcomes : Type 0 where
   pub multiplexed : multiplexing.Frames
   pub entered : entering.Reasons
   pub stepped : stepping.Events
+  pub spent : stepping.Spending
   pub judged : judging.Faults
   pub closed : judging.Verdicts
   pub wrapped : wrapping.Wrapped

@@ -9,7 +9,7 @@ use lib.ListN.{length}
 use Rattle.octets.specs.Basics.{pick, All}
 use Rattle.frames.specs.Frame.{in-range, frame-length}
 use Rattle.frames.specs.declared.Settings.{Settings}
-use Rattle.extractor.specs.Records.{reachable, is-entered, Stepped, step}
+use Rattle.extractor.specs.Records.{reachable, is-entered, Stepped}
 use Rattle.extractor.specs.Calls.{goes-on, answers-to, SpentLast}
 use Rattle.extractor.specs.declared.Extractor.{Extractor}
 use Rattle.extractor.specs.declared.Extractor.the-variants.{Fresh, Astray, InStep, Walking, Leaving}

@@ -54,9 +54,6 @@ bit-count s f = read count-place (primary (s .link) f)
 abbrev pub bit-replay : BitSettings → List ℕ → ℕ
 bit-replay s f = read replay-place (primary (s .link) f)
 
-abbrev pub bit-spare : BitSettings → List ℕ → ℕ
-bit-spare s f = read bit-spare-place (zone-head (s .link) f)
-
 abbrev pub bit-pointer : BitSettings → List ℕ → ℕ
 bit-pointer s f = read bit-pointer-place (zone-head (s .link) f)
 

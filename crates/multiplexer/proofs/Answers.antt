@@ -35,11 +35,3 @@ said-back (Done full taken m) frame = refl
 -- two outcomes that meet the promise of a call are equal
 pub determined : (a : Answer) (o o′ : Outcome) → Meets o a → Meets o′ a → o ≡ o′
 determined a o o′ p q = sym (said-back (o .reply) (o .frame)) ∙ ap said (p ∙ sym q) ∙ said-back (o′ .reply) (o′ .frame)
-
--- a call that a row refuses answers that row's number and leaves its record and its frame
-pub refused-keeps : (s : Settings) (m : Mux) (c : Call) (frame : List ℕ) (o : Outcome) → Meets o (answer s m c frame)
-    → (first (call-rows s m c (length frame)) ≡ 0 → ⊥)
-    → o ≡ record { reply = Refused (first (call-rows s m c (length frame))) m; frame = frame }
-unfolding answers
-refused-keeps s m c frame o p h =
-    determined (answer s m c frame) o (record { reply = Refused (first (call-rows s m c (length frame))) m; frame = frame }) p (sym (refused s m c frame refl h))

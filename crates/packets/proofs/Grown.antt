@@ -12,7 +12,7 @@ use lib.Dec.{ltb, eqb}
 use borrow.Author.Tests.{ltb-true, ltb-false, lt-ltb, le-ltb}
 use Rattle.octets.specs.Basics.{pick, or, number, part}
 use Rattle.octets.proofs.Choices.{split, apart, picked, or-false}
-use Rattle.packets.specs.Packet.{Look, more, damaged, whole, sized, counted, space, header-length, encapsulation, packet-version, protocol-of, length-of-length, look, WellFormed, size-of}
+use Rattle.packets.specs.Packet.{Look, more, damaged, whole, sized, counted, space, header-length, encapsulation, packet-version, protocol-of, length-of-length, look, WellFormed}
 use Rattle.packets.proofs.Sizes.{header-positive, header-most}
 
 -- ---- what a look bounds: a header that is not whole is short, and a packet has an octet at least and is within the limit
@@ -92,14 +92,6 @@ unfolding encapsulation header-length
 encapsulation-least limit protocol zero os {l} e =
     picked (eqb protocol 0) (whole 1) damaged e (λ t q. let one : 1 ≡ l = cc in omega arith) (λ t q. apart (cc))
 encapsulation-least limit protocol (suc n) os e = counted-least limit (length os) (header-length (suc n)) _ e
-
--- a packet is no shorter than its header
-pub look-size : (limit : ℕ) (os : List ℕ) {l : ℕ} → look limit os ≡ whole l → size-of os ≤ l
-unfolding look space size-of
-look-size limit [] e = apart (cc)
-look-size limit (o ∷ os) e =
-    picked (eqb (packet-version o) 0) _ _ e (λ t q. rw t (counted-least limit (length (o ∷ os)) 6 _ q))
-    (λ t q. rw t (picked (eqb (packet-version o) 7) _ _ q (λ u r. encapsulation-least limit (protocol-of o) (length-of-length o) (o ∷ os) r) (λ u r. apart (cc))))
 
 sized-not-more : (limit size total : ℕ) → sized limit size total ≡ more → ⊥
 unfolding sized

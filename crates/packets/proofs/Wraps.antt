@@ -2,21 +2,18 @@
 -- Assumes nothing.
 use mathlib.Core.Path.{_≡_, refl, ap, _∙_}
 use mathlib.Core.List.{List, _++_}
-use mathlib.Core.Bool.{true, false, not}
+use mathlib.Core.Bool.{true, false}
 use Prim.Native.Nat.{ℕ, _+_, _-_, _≤_}
 use native.Mathlib.Omega.{arith}
-use lib.ListN.{length, take, drop, getD, length-drop}
-use lib.Seq.{take-all, take-length}
-use lib.Dec.{eqb}
-use borrow.Author.Tests.{le-leb, ltb-false, eqb-false, eq-eqb, ne-eqb, not-false}
-use Rattle.octets.specs.Basics.{first, part-of, over, laid-part}
+use lib.ListN.{length, take, getD}
+use lib.Seq.{take-length}
+use borrow.Author.Tests.{ltb-false, eqb-false, eq-eqb, ne-eqb, not-false}
+use Rattle.octets.specs.Basics.{first, over, laid-part}
 use Rattle.octets.proofs.Choices.{split, none-holds, or-false}
 use Rattle.octets.proofs.Written.{part-within, length-over, over-over}
-use Rattle.packets.specs.Packet.{whole, look, limit-in-range, well-formed, packet-version, protocol-of, header-length, size-of}
+use Rattle.packets.specs.Packet.{protocol-of, header-length}
 use Rattle.packets.specs.Front.{front}
-use Rattle.packets.specs.Wrap.{length-of-length-for, wrapped-total, wrapped, wrap-in-range, wrap-rows, wrapping, its-length-of-length, extension-of, unwrap-rows, unwrapping, unit-of}
-use Rattle.packets.proofs.Grown.{look-size}
-use Rattle.packets.proofs.Readings.{test-formed}
+use Rattle.packets.specs.Wrap.{length-of-length-for, wrapped-total, wrapped, wrap-in-range, wrap-rows, wrapping, its-length-of-length, extension-of, unwrap-rows, unwrapping}
 use Rattle.packets.proofs.Fronts.{length-front}
 
 -- what holds where no row does
@@ -102,16 +99,3 @@ module _ (limit : ℕ) (p : List ℕ) where
       }
   unfolding unwrapping
   unwrapping-done h = rw (eq-eqb (first (unwrap-rows limit p)) 0 h) refl
-
--- the part that an accepted call speaks of is the data unit
-pub unit-handed : (limit : ℕ) (p : List ℕ) → first (unwrap-rows limit p) ≡ 0
-    → part-of p (unwrapping limit p .start) (unwrapping limit p .size) ≡ unit-of p
-unfolding unwrap-rows part-of unit-of size-of
-unit-handed limit p e =
-    let a = or-false (not (well-formed limit p)) (eqb (packet-version (getD p 0 0)) 0) (none-holds 7 _ _ (none-holds 0 (not (limit-in-range limit)) _ e .1) .0) in
-    let says : look limit p ≡ whole (length p) = test-formed limit p (not-false _ (a .0)) in
-    let start : ℕ = header-length (its-length-of-length p) in
-    let header : start ≤ length p = rw (a .1) at (look-size limit p says) in
-    let end : start + (length p - start) ≡ length p = omega arith in
-    rw (unwrapping-done limit p e, end, le-leb (length p) (length p) (omega arith))
-    (take-all (length p - start) (drop start p) (omega (arith, length-drop start p)))

@@ -2,7 +2,7 @@
 use mathlib.Core.Path.{_≡_}
 use mathlib.Core.List.{[], _∷_}
 use lib.ListN.{replicate}
-use Rattle.packets.specs.Packet.{damaged, whole, look, WellFormed}
+use Rattle.packets.specs.Packet.{damaged, look, WellFormed}
 use Rattle.packets.specs.Idle.{idle-packet}
 
 pub record Pass8 : Type 0 where

@@ -87,10 +87,6 @@ extension-of p = pick (leb 2 (its-length-of-length p)) (field (getD p 1 0) 0 4) 
 unfoldable pub reserved-of : List ℕ → ℕ
 reserved-of p = pick (leb 3 (its-length-of-length p)) (number-at 2 2 p) 0
 
--- the data unit
-unfoldable pub unit-of : List ℕ → List ℕ
-unit-of p = drop (header-length (its-length-of-length p)) p
-
 -- the refusals: a space packet is refused by 8, an extension without protocol 6 and reserved bits by 6
 unfoldable pub unwrap-rows : ℕ → List ℕ → List Row
 unwrap-rows limit p =

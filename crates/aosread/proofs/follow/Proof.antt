@@ -1,7 +1,6 @@
 -- `follow` meets its contract: each record that is not the last leaves fewer to take.
 -- Assumes nothing.
 use mathlib.Core.Path.{_≡_, refl}
-use native.Mathlib.Omega.{arith}
 use lib.ListN.{length}
 use Rattle.runfile.proofs.Ends.{left}
 use Rattle.aosread.specs.Input.{Inside}

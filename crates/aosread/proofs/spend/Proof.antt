@@ -1,7 +1,6 @@
 -- `spend` meets its contract: each step that goes on leaves fewer to take.
 -- Assumes nothing.
 use mathlib.Core.Path.{_≡_, refl, sym, _∙_}
-use native.Mathlib.Omega.{arith}
 use lib.ListN.{length}
 use borrow.Author.Tests.{not-false}
 use Rattle.aosread.specs.Lines.{Room}

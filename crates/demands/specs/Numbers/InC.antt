@@ -125,22 +125,110 @@ pub record Short : Type 0 where
   pub bits : write-leaves (lent 3) (lent 1) [] 0 (lent 2) ∷ write-leaves (lent 4) [] [] 0 (lent 2) ∷ read-leaves (lent 3) (lent 2) [] (lent 6) ∷ read-leaves (lent 4) (lent 1) [] (lent 6) ∷ read-leaves (lent 4) (lent 2) [] (lent 5) ∷ []
       ≡ left 2 (lent 1) (lent 2) [] ∷ left 2 [] (lent 2) [] ∷ left 2 (lent 2) [] (lent 6) ∷ left 2 (lent 1) [] (lent 6) ∷ left 2 (lent 2) [] (lent 5) ∷ []
 
--- A record of no kind, with an entry that its kind does not use or a number too great is refused by 10 and stays as it was; a limit that cannot be, by 1.
-pub record Refused : Type 0 where
-  pub kinds : map (λ (r : List ℕ). enter-leaves settings r store (frame 1 0x00 0x03 rest) (lent 6))
-      ((5 ∷ 0 ∷ 0 ∷ 0 ∷ []) ∷ (1 ∷ 0 ∷ 1 ∷ 0 ∷ []) ∷ (1 ∷ 4294967296 ∷ 0 ∷ 0 ∷ []) ∷ [])
-      ≡ map (λ (r : List ℕ). left 10 r [] (0 ∷ 0 ∷ 0 ∷ 0 ∷ 0 ∷ 0 ∷ []))
-      ((5 ∷ 0 ∷ 0 ∷ 0 ∷ []) ∷ (1 ∷ 0 ∷ 1 ∷ 0 ∷ []) ∷ (1 ∷ 4294967296 ∷ 0 ∷ 0 ∷ []) ∷ [])
-  pub judge : judge-leaves settings (3 ∷ 0 ∷ 0 ∷ 0 ∷ []) store [] ≡ left 10 (3 ∷ 0 ∷ 0 ∷ 0 ∷ []) store []
-  pub count : write-leaves bit-settings (4294967296 ∷ []) [] 0 (lent 10) ≡ left 10 (4294967296 ∷ []) (lent 10) []
-  pub reader : read-leaves bit-settings (2 ∷ 7 ∷ []) (frame 4 0x00 0x08 (lent 2)) (lent 6) ≡ left 10 (2 ∷ 7 ∷ []) [] (0 ∷ 0 ∷ 0 ∷ 0 ∷ 0 ∷ 0 ∷ [])
-  pub fill : write-leaves (66 ∷ 3 ∷ 2 ∷ 256 ∷ []) (4 ∷ []) [] 0 (lent 10) ≡ left 1 (4 ∷ []) (lent 10) []
+-- Settings that cannot be are refused by 1, in every call: a spacecraft above 255, a channel above 62 and a fill above 255, however great; and all stays as it was.
+abbrev pub outside : List (List ℕ)
+outside =
+    (256 ∷ 3 ∷ 10 ∷ 12 ∷ 0x55 ∷ [])
+    ∷ (4294967362 ∷ 3 ∷ 10 ∷ 12 ∷ 0x55 ∷ [])
+    ∷ (66 ∷ 63 ∷ 10 ∷ 12 ∷ 0x55 ∷ [])
+    ∷ (66 ∷ 4294967299 ∷ 10 ∷ 12 ∷ 0x55 ∷ [])
+    ∷ (66 ∷ 3 ∷ 10 ∷ 12 ∷ 256 ∷ [])
+    ∷ (66 ∷ 3 ∷ 10 ∷ 12 ∷ 4294967381 ∷ [])
+    ∷ []
+
+abbrev pub bits-outside : List (List ℕ)
+bits-outside = (256 ∷ 3 ∷ 2 ∷ 0x55 ∷ []) ∷ (66 ∷ 63 ∷ 2 ∷ 0x55 ∷ []) ∷ (4294967362 ∷ 3 ∷ 2 ∷ 0x55 ∷ []) ∷ (66 ∷ 3 ∷ 2 ∷ 256 ∷ []) ∷ []
+
+-- the same for each of a list
+abbrev pub each : {A B : Type 0} → List A → B → List B
+each l b = map (λ a. b) l
+
+pub record Outside : Type 0 where
+  pub put : map (λ (s : List ℕ). mux-leaves (to-put seven) 2 put-numbers s (4 ∷ 0 ∷ 2047 ∷ 0 ∷ []) (lent 18) (lent 2)) outside
+      ≡ each outside (left 1 (4 ∷ 0 ∷ 2047 ∷ 0 ∷ []) (lent 18) (0 ∷ 0 ∷ []))
+  pub flush : map (λ (s : List ℕ). mux-leaves to-flush 1 flush-numbers s (4 ∷ 8 ∷ 0 ∷ 0 ∷ []) (lent 18) (lent 1)) outside
+      ≡ each outside (left 1 (4 ∷ 8 ∷ 0 ∷ 0 ∷ []) (lent 18) (0 ∷ []))
+  pub enter : map (λ (s : List ℕ). enter-leaves s (2 ∷ 0 ∷ 2 ∷ 0 ∷ []) store (frame 1 0x00 0x03 rest) (lent 6)) outside
+      ≡ each outside (left 1 (2 ∷ 0 ∷ 2 ∷ 0 ∷ []) [] (0 ∷ 0 ∷ 0 ∷ 0 ∷ 0 ∷ 0 ∷ []))
+  pub step : map (λ (s : List ℕ). step-leaves s (3 ∷ 1 ∷ 2 ∷ 0 ∷ []) store (frame 1 0x00 0x03 rest) (lent 4)) outside
+      ≡ each outside (left 1 (3 ∷ 1 ∷ 2 ∷ 0 ∷ []) store (0 ∷ 0 ∷ 0 ∷ 0 ∷ []))
+  pub judge : map (λ (s : List ℕ). judge-leaves s (1 ∷ 1 ∷ 0 ∷ 2 ∷ []) store (frame 1 0x00 0x03 rest)) outside ≡ each outside (left 1 (1 ∷ 1 ∷ 0 ∷ 2 ∷ []) store [])
+  pub close : map (λ (s : List ℕ). close-leaves s (1 ∷ 1 ∷ 0 ∷ 2 ∷ []) store (lent 2)) outside ≡ each outside (left 1 [] [] (0 ∷ 0 ∷ []))
+  pub write : map (λ (s : List ℕ). write-leaves s (4 ∷ []) [] 0 (lent 10)) bits-outside ≡ each bits-outside (left 1 (4 ∷ []) (lent 10) [])
+  pub read : map (λ (s : List ℕ). read-leaves s (1 ∷ 2 ∷ []) (frame 4 0x00 0x08 (lent 2)) (lent 6)) bits-outside
+      ≡ each bits-outside (left 1 (1 ∷ 2 ∷ []) [] (0 ∷ 0 ∷ 0 ∷ 0 ∷ 0 ∷ 0 ∷ []))
+  -- a limit that cannot be; a protocol and an extension that are no octets; a field of a space packet's header that is too great, each in its turn
   pub limit : formed-leaves 6 ten (lent 1) ∷ unwrap-leaves 6 six (lent 4) ∷ [] ≡ left 1 [] [] (0 ∷ []) ∷ left 1 [] [] (0 ∷ 0 ∷ 0 ∷ 0 ∷ []) ∷ []
+  pub wrap : wrap-leaves 12 258 0 (0xAA ∷ []) (lent 4) (lent 1) ∷ wrap-leaves 12 6 261 (0xAA ∷ []) (lent 6) (lent 1) ∷ []
+      ≡ left 1 [] (lent 4) (0 ∷ []) ∷ left 1 [] (lent 6) (0 ∷ []) ∷ []
+  pub space : map (λ (h : List ℕ). write-space-leaves h (lent 7))
+      ((65536 ∷ 1 ∷ 0 ∷ 5 ∷ 3 ∷ 9 ∷ 1 ∷ [])
+      ∷ (0 ∷ 65537 ∷ 0 ∷ 5 ∷ 3 ∷ 9 ∷ 1 ∷ [])
+      ∷ (0 ∷ 1 ∷ 65536 ∷ 5 ∷ 3 ∷ 9 ∷ 1 ∷ [])
+      ∷ (0 ∷ 1 ∷ 0 ∷ 65541 ∷ 3 ∷ 9 ∷ 1 ∷ [])
+      ∷ (0 ∷ 1 ∷ 0 ∷ 5 ∷ 65539 ∷ 9 ∷ 1 ∷ [])
+      ∷ (0 ∷ 1 ∷ 0 ∷ 5 ∷ 3 ∷ 65545 ∷ 1 ∷ [])
+      ∷ (0 ∷ 1 ∷ 0 ∷ 5 ∷ 3 ∷ 9 ∷ 65537 ∷ [])
+      ∷ [])
+      ≡ each (lent 7) (left 1 [] (lent 7) [])
+
+-- Records of the extractor that are refused by 10: of no kind, with an entry that the kind does not use, or with a count too great.
+abbrev pub unmade : List (List ℕ)
+unmade =
+    (5 ∷ 0 ∷ 0 ∷ 0 ∷ [])
+    ∷ (0 ∷ 1 ∷ 0 ∷ 0 ∷ [])
+    ∷ (0 ∷ 0 ∷ 1 ∷ 0 ∷ [])
+    ∷ (0 ∷ 0 ∷ 0 ∷ 1 ∷ [])
+    ∷ (1 ∷ 0 ∷ 1 ∷ 0 ∷ [])
+    ∷ (1 ∷ 0 ∷ 0 ∷ 1 ∷ [])
+    ∷ (2 ∷ 0 ∷ 0 ∷ 1 ∷ [])
+    ∷ (4 ∷ 0 ∷ 1 ∷ 0 ∷ [])
+    ∷ (4 ∷ 0 ∷ 0 ∷ 1 ∷ [])
+    ∷ (1 ∷ 4294967296 ∷ 0 ∷ 0 ∷ [])
+    ∷ (2 ∷ 4294967296 ∷ 0 ∷ 0 ∷ [])
+    ∷ (3 ∷ 4294967296 ∷ 0 ∷ 0 ∷ [])
+    ∷ (4 ∷ 4294967296 ∷ 0 ∷ 0 ∷ [])
+    ∷ []
+
+-- so for the judge, with its tally, its last count and the index of its fault
+abbrev pub unjudged : List (List ℕ)
+unjudged =
+    (3 ∷ 0 ∷ 0 ∷ 0 ∷ [])
+    ∷ (0 ∷ 1 ∷ 0 ∷ 0 ∷ [])
+    ∷ (0 ∷ 0 ∷ 1 ∷ 0 ∷ [])
+    ∷ (0 ∷ 0 ∷ 0 ∷ 1 ∷ [])
+    ∷ (2 ∷ 1 ∷ 0 ∷ 1 ∷ [])
+    ∷ (1 ∷ 4294967297 ∷ 0 ∷ 0 ∷ [])
+    ∷ (1 ∷ 1 ∷ 4294967296 ∷ 0 ∷ [])
+    ∷ (2 ∷ 4294967297 ∷ 0 ∷ 0 ∷ [])
+    ∷ (2 ∷ 1 ∷ 4294967296 ∷ 0 ∷ [])
+    ∷ []
+
+-- and for a reader of bits
+abbrev pub unread : List (List ℕ)
+unread = (2 ∷ 0 ∷ []) ∷ (2 ∷ 7 ∷ []) ∷ (0 ∷ 7 ∷ []) ∷ (1 ∷ 4294967296 ∷ []) ∷ []
+
+-- Each is refused by 10 and stays as it was.
+pub record Refused : Type 0 where
+  pub entered : map (λ (r : List ℕ). enter-leaves settings r store (frame 1 0x00 0x03 rest) (lent 6)) unmade
+      ≡ map (λ (r : List ℕ). left 10 r [] (0 ∷ 0 ∷ 0 ∷ 0 ∷ 0 ∷ 0 ∷ [])) unmade
+  pub stepped : map (λ (r : List ℕ). step-leaves settings r store (frame 1 0x00 0x03 rest) (lent 4)) unmade
+      ≡ map (λ (r : List ℕ). left 10 r store (0 ∷ 0 ∷ 0 ∷ 0 ∷ [])) unmade
+  pub judged : map (λ (r : List ℕ). judge-leaves settings r store (frame 1 0x00 0x03 rest)) unjudged ≡ map (λ (r : List ℕ). left 10 r store []) unjudged
+  pub closed : map (λ (r : List ℕ). close-leaves settings r store (lent 2)) unjudged ≡ each unjudged (left 10 [] [] (0 ∷ 0 ∷ []))
+  pub flushed : mux-leaves to-flush 1 flush-numbers settings (4294967296 ∷ 8 ∷ 0 ∷ 0 ∷ []) (lent 18) (lent 1)
+      ≡ left 10 (4294967296 ∷ 8 ∷ 0 ∷ 0 ∷ []) (lent 18) (0 ∷ [])
+  pub written : write-leaves bit-settings (4294967296 ∷ []) [] 0 (lent 10) ≡ left 10 (4294967296 ∷ []) (lent 10) []
+  pub read : map (λ (r : List ℕ). read-leaves bit-settings r (frame 4 0x00 0x08 (lent 2)) (lent 6)) unread
+      ≡ map (λ (r : List ℕ). left 10 r [] (0 ∷ 0 ∷ 0 ∷ 0 ∷ 0 ∷ 0 ∷ [])) unread
+  -- no space packet's header: all is 0
+  pub no-space : read-space-leaves (0x10 ∷ 0x05 ∷ 0xC0 ∷ 0x09 ∷ 0x00 ∷ []) (lent 8) ≡ left 8 [] [] (0 ∷ 0 ∷ 0 ∷ 0 ∷ 0 ∷ 0 ∷ 0 ∷ 0 ∷ [])
   -- the first frame that a reader of bits reads
   pub first-read : read-leaves bit-settings (0 ∷ 0 ∷ []) (frame 4 0x00 0x08 (lent 2)) (lent 6) ≡ left 0 (1 ∷ 4 ∷ []) [] (4 ∷ 0 ∷ 0 ∷ 9 ∷ 8 ∷ 2 ∷ [])
 
 pub record InC : Type 0 where
   pub short : Short
+  pub outside : Outside
   pub refused : Refused
   pub stated : Settings
   pub packets : Packets

@@ -15,6 +15,7 @@ use Rattle.multiplexer.specs.Calls.{to-put, to-flush, to-idle, answer}
 use Rattle.multiplexer.specs.declared.Mux.{Mux}
 use Rattle.extractor.specs.Records.{checked}
 use Rattle.extractor.specs.Answers.{enter-answer, step-answer}
+use Rattle.extractor.specs.Calls.{spend-answer}
 use Rattle.extractor.specs.declared.Extractor.{Extractor}
 use Rattle.judge.specs.Calls.{frame-call, close-call}
 use Rattle.judge.specs.declared.Judge.{Judge}
@@ -31,6 +32,7 @@ pub record OnlyThese : Type 0 where
   pub enter : (s : Settings) (x : Extractor) (store f : List ℕ)
       → Among (enter-answer s x store f .answer .refusal) (0 ∷ 1 ∷ 2 ∷ 10 ∷ 9 ∷ 3 ∷ 4 ∷ 5 ∷ 6 ∷ 7 ∷ [])
   pub step : (s : Settings) (x : Extractor) (store f : List ℕ) → Among (step-answer s x store f .answer .refusal) (0 ∷ 1 ∷ 2 ∷ 10 ∷ 9 ∷ 3 ∷ [])
+  pub spend : (s : Settings) (x : Extractor) (store f : List ℕ) → Among (spend-answer s x store f .refusal) (0 ∷ 1 ∷ 2 ∷ 10 ∷ 9 ∷ 3 ∷ [])
   pub held : (s : Settings) (x : Extractor) (store : List ℕ) → Among (first (checked s x store [])) (0 ∷ 1 ∷ 2 ∷ 10 ∷ [])
   pub judge : (s : Settings) (store : List ℕ) (j : Judge) (f : List ℕ) → Among (frame-call s store j f .refusal) (0 ∷ 1 ∷ 2 ∷ 10 ∷ 11 ∷ [])
   pub close : (s : Settings) (store : List ℕ) (j : Judge) → Among (close-call s store j .refusal) (0 ∷ 1 ∷ 2 ∷ 10 ∷ [])

@@ -1,6 +1,6 @@
 -- `octets::field` meets its contract: a field that holds all that is left, and a mask below that.
 -- Assumes nothing.
-use mathlib.Core.Path.{_≡_, sym, _∙_, ap}
+use mathlib.Core.Path.{sym, _∙_}
 use borrow.Author.Needs.{needs}
 use lib.Pow.{pow-pos}
 use Rattle.octets.proofs.Fields.{field-rest, field-mask, one-up}

@@ -1,6 +1,5 @@
 -- `octets::placed` meets its contract: what is left above the field, the value and the bits below are joined.
 -- Assumes nothing.
-use mathlib.Core.Path.{_≡_}
 use borrow.Author.Needs.{needs}
 use lib.Pow.{shr-shr}
 use Rattle.octets.specs.Basics.{placed}

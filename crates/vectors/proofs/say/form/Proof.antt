@@ -1,6 +1,6 @@
 -- `say::form` meets its contract: its loop stays inside what it reads and writes, and ends.
 -- Assumes nothing.
-use Prim.Native.Nat.{_-_, _≤_}
+use Prim.Native.Nat.{_-_}
 use lib.ListN.{length}
 use borrow.Author.Needs.{needs}
 use Rattle.vectors.proofs.say.form.Statement.{statement}
