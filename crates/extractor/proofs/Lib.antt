@@ -13,6 +13,7 @@ pub mod Refused
 pub mod Settles
 pub mod Spends
 pub mod Starts
+pub mod Stated
 pub mod Steps
 pub mod Theorems
 pub mod Turns

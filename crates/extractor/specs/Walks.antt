@@ -3,13 +3,15 @@ use mathlib.Core.Path.{_≡_}
 use mathlib.Core.List.{List}
 use mathlib.Core.Bool.{Bool, true}
 use Prim.Native.Nat.{ℕ, _≤_}
-use lib.ListN.{length}
+use lib.ListN.{length, take}
 use lib.Dec.{leb, ltb, eqb}
 use Rattle.octets.specs.Basics.{pick, and}
 use Rattle.frames.specs.Frame.{in-range, frame-length, pointer, heading}
 use Rattle.frames.specs.declared.Settings.{Settings}
 use Rattle.frames.specs.declared.Heading.{Heading}
 use Rattle.extractor.specs.Records.{holds-well, on-wheel}
+use Rattle.packets.specs.Packet.{Look, damaged, look}
+use Rattle.packets.specs.Header.{seen}
 use Rattle.packets.specs.declared.Seen.{Seen}
 use Rattle.packets.specs.declared.Seen.the-variants.{More, Damaged, Whole}
 use Rattle.extractor.specs.declared.Extractor.{Extractor}
@@ -29,6 +31,14 @@ at-in (Astray last) = 0
 at-in (InStep last h) = 0
 at-in (Walking last h at) = at
 at-in (Leaving last) = 0
+
+-- what the octets held say of their packet's length; damage, where the store has fewer
+unfoldable pub held-look : Settings → List ℕ → ℕ → Look
+held-look s store h = pick (leb h (length store)) (look (s .limit) (take h store)) damaged
+
+-- a reading of it
+abbrev pub Says : Settings → List ℕ → ℕ → Seen → Type 0
+Says s store h r = seen r ≡ held-look s store h
 
 -- what octets say of their packet's length where n of them are at hand: a packet that is longer is not whole yet
 unfoldable pub at-hand : ℕ → Seen → Seen

@@ -5,9 +5,9 @@ ghost use lib.Dec.{ltb};
 ghost use Rattle.octets.specs.Basics.{pick, first};
 ghost use Rattle.frames.specs.Frame.{no-start, count};
 ghost use Rattle.extractor.specs.Extract.{in-step, lost-since, reason-in, reason-of};
-ghost use Rattle.extractor.specs.Records.{enter-rows, last-count, is-in-step, stands-for, set-off};
+ghost use Rattle.extractor.specs.Records.{enter-rows, last-count, held-in, is-in-step, stands-for, set-off};
 ghost use Rattle.extractor.specs.Answers.{enter-says, entered-as};
-ghost use Rattle.extractor.specs.Walks.{Walks, PointsTo, Heads};
+ghost use Rattle.extractor.specs.Walks.{Says, Walks, PointsTo, Heads};
 use crate::Entered;
 use crate::Entering;
 use crate::Entry;
@@ -69,15 +69,31 @@ fn compared(agrees: bool) -> u8
 }
 
 // Why the octets held are dropped, by their header and the frame's pointer.
-fn pointer_reason(s: Settings, held: usize, pointer: usize, store: &[u8], frame: &[u8]) -> u8
+fn pointer_reason(
+    s: Settings,
+    held: usize,
+    stated: Seen,
+    pointer: usize,
+    store: &[u8],
+    frame: &[u8],
+) -> u8
     requires { ⌜ Walks s held 0 (now store) (now frame) ⌝ }
     requires { ⌜ PointsTo s (now frame) pointer ⌝ }
+    requires { ⌜ Says s (now store) held stated ⌝ }
     ensures { λ r. ⌜ r ≡ reason-in s (in-step (take held (now (store .entry)))) (now (frame .entry)) ⌝ }
 {
     if held == 0 {
         return compared((pointer == 0) | (pointer == IDLE_ZONE));
     }
-    match length_across(s.limit, store, held, frame, ZONE_AT, ZONE_AT + s.zone) {
+    match length_across(
+        s.limit,
+        stated,
+        store,
+        held,
+        frame,
+        ZONE_AT,
+        ZONE_AT + s.zone,
+    ) {
         Seen::Damaged => HEADER_DAMAGED,
         Seen::More => compared(pointer == NO_START),
         Seen::Whole { total } => compared(pointer == next_start(s.zone, octets::rest(total, held))),
@@ -85,10 +101,19 @@ fn pointer_reason(s: Settings, held: usize, pointer: usize, store: &[u8], frame:
 }
 
 // Why they are dropped: the frames that are missing come first.
-fn reason_of(s: Settings, x: Extractor, lost: u32, pointer: usize, store: &[u8], frame: &[u8]) -> u8
+fn reason_of(
+    s: Settings,
+    x: Extractor,
+    stated: Seen,
+    lost: u32,
+    pointer: usize,
+    store: &[u8],
+    frame: &[u8],
+) -> u8
     requires { ⌜ first (enter-rows s x (now store) (now frame)) ≡ 0 ⌝ }
     requires { ⌜ lost ≡ lost-since s (last-count x) (count s (now frame)) ⌝ }
     requires { ⌜ PointsTo s (now frame) pointer ⌝ }
+    requires { ⌜ Says s (now store) (held-in x) stated ⌝ }
     ensures { λ r. ⌜ r ≡ reason-of s (stands-for (now (store .entry)) x) (now (frame .entry)) ⌝ }
 {
     if lost != 0 {
@@ -97,7 +122,7 @@ fn reason_of(s: Settings, x: Extractor, lost: u32, pointer: usize, store: &[u8],
     if !is_in_step(x) {
         return KEPT;
     }
-    pointer_reason(s, held_in(x), pointer, store, frame)
+    pointer_reason(s, held_in(x), stated, pointer, store, frame)
 }
 
 // Where the walk sets out: in step with so many octets held, or out of step.
@@ -133,18 +158,20 @@ pub(crate) fn taken(
     s: Settings,
     x: Extractor,
     heading: Heading,
+    stated: Seen,
     store: &[u8],
     frame: &[u8],
 ) -> Entering
     requires { ⌜ first (enter-rows s x (now store) (now frame)) ≡ 0 ⌝ }
     requires { ⌜ Heads s (now frame) heading ⌝ }
+    requires { ⌜ Says s (now store) (held-in x) stated ⌝ }
     ensures { λ r. ⌜ enter-says r ≡ entered-as s x (now (store .entry)) (now (frame .entry)) ⌝ }
 {
     let count = heading.count;
     let replay = heading.replay;
     let pointer = heading.pointer as usize;
     let lost = lost_since(s, x, count);
-    let reason = reason_of(s, x, lost, pointer, store, frame);
+    let reason = reason_of(s, x, stated, lost, pointer, store, frame);
     let held = held_in(x);
     if reason == KEPT {
         let entry = Entry {

@@ -1,7 +1,7 @@
 // The record and the octets held: whether the rules can reach them, and what they say with those that follow.
 ghost use mathlib.Core.Path.{_≡_};
-ghost use Prim.Native.Nat.{_-_, _≤_};
-ghost use mathlib.Core.List.{[], _∷_, _++_};
+ghost use Prim.Native.Nat.{ℕ, _-_, _≤_};
+ghost use mathlib.Core.List.{List, [], _∷_, _++_};
 ghost use mathlib.Core.Bool.{not};
 ghost use lib.ListN.{length, take, drop};
 ghost use lib.Dec.{ltb};
@@ -9,9 +9,10 @@ ghost use Rattle.octets.specs.Basics.{first, row};
 ghost use Rattle.packets.specs.Packet.{look};
 ghost use Rattle.packets.specs.Header.{seen};
 ghost use Rattle.frames.specs.declared.Settings.{Settings};
-ghost use Rattle.extractor.specs.Records.{unfinished, holds-well, reachable, is-entered, held-in};
-ghost use Rattle.extractor.specs.Walks.{last-in, at-in, reached, at-hand};
+ghost use Rattle.extractor.specs.Records.{unfinished, reachable, is-entered, held-in};
+ghost use Rattle.extractor.specs.Walks.{last-in, at-in, reached, at-hand, Says};
 use crate::Extractor;
+use frames::Settings;
 use frames::WHEEL;
 use octets::refusals;
 use packets::Seen;
@@ -83,22 +84,23 @@ pub(crate) fn at_hand(n: usize, length: Seen) -> Seen
     }
 }
 
-// Whether so many octets at the front of the store begin a packet and do not end it, or none are held. No more than their header is read.
-fn holds_well(limit: usize, store: &[u8], held: usize) -> bool
-    ensures { λ r. ⌜ ((s : Settings) → limit ≡ s .limit → r ≡ holds-well s (now (store .entry)) held) ⌝ }
+// What the octets held say of their packet's length; damage, where the store has fewer. No more than their header is read.
+pub(crate) fn stated(s: Settings, x: Extractor, store: &[u8]) -> Seen
+    ensures { λ r. ⌜ Says s (now (store .entry)) (held-in x) r ⌝ }
 {
+    let held = held_in(x);
     if held == 0 {
-        return true;
+        return Seen::More;
     }
     if store.len() < held {
-        return false;
+        return Seen::Damaged;
     }
-    unfinished(held, packets::read_length(limit, &store[..held]))
+    packets::read_length(s.limit, &store[..held])
 }
 
-// Whether the rules can reach a record with these numbers and this store, for a limit and a zone.
-fn reachable(limit: usize, zone: usize, last: u32, held: usize, at: usize, store: &[u8]) -> bool
-    ensures { λ r. ⌜ ((s : Settings) → limit ≡ s .limit → zone ≡ s .zone → r ≡ reached s (now (store .entry)) last held at) ⌝ }
+// Whether the rules can reach a record with these numbers, whose octets held say this, for a zone.
+fn reachable(zone: usize, last: u32, held: usize, at: usize, stated: Seen) -> bool
+    ensures { λ r. ⌜ ((s : Settings) (store : List ℕ) → zone ≡ s .zone → Says s store held stated → r ≡ reached s store last held at) ⌝ }
 {
     if WHEEL <= last {
         return false;
@@ -106,24 +108,17 @@ fn reachable(limit: usize, zone: usize, last: u32, held: usize, at: usize, store
     if held == 0 {
         return at <= zone;
     }
-    (at == 0) & holds_well(limit, store, held)
+    (at == 0) & unfinished(held, stated)
 }
 
-// What the store and a record with these numbers are refused for; 0 where they are not.
-pub(crate) fn refusal(
-    limit: usize,
-    zone: usize,
-    last: u32,
-    held: usize,
-    at: usize,
-    store: &[u8],
-) -> u8
-    ensures { λ r. ⌜ ((s : Settings) (x : Extractor) → limit ≡ s .limit → zone ≡ s .zone → last ≡ last-in x → held ≡ held-in x → at ≡ at-in x → r ≡ first (row 2 (ltb (length (now (store .entry))) (s .limit)) ∷ row 10 (not (reachable s (now (store .entry)) x)) ∷ [])) ⌝ }
+// What a store of so many octets and a record whose octets held say this are refused for; 0 where they are not.
+pub(crate) fn refusal(s: Settings, x: Extractor, stated: Seen, room: usize) -> u8
+    ensures { λ r. ⌜ ((store : List ℕ) → room ≡ length store → Says s store (held-in x) stated → r ≡ first (row 2 (ltb (length store) (s .limit)) ∷ row 10 (not (reachable s store x)) ∷ [])) ⌝ }
 {
-    if store.len() < limit {
+    if room < s.limit {
         return refusals::ROOM;
     }
-    if !reachable(limit, zone, last, held, at, store) {
+    if !reachable(s.zone, last_in(x), held_in(x), at_in(x), stated) {
         return refusals::RECORD;
     }
     0
@@ -165,9 +160,11 @@ fn start_of(store: &[u8], held: usize, frame: &[u8], from: usize, to: usize) -> 
     }
 }
 
-// What the octets held and those of the frame from `from` up to `to` say of the length of the packet that they begin.
+// What the octets held, which say this of their packet's length, say of it with those of the frame from `from` up to `to`: their header
+// may end there.
 pub(crate) fn length_across(
     limit: usize,
+    stated: Seen,
     store: &[u8],
     held: usize,
     frame: &[u8],
@@ -176,13 +173,17 @@ pub(crate) fn length_across(
 ) -> Seen
     requires { ⌜ (1 ≤ limit) × (held ≤ length (now store)) ⌝ }
     requires { ⌜ (from ≤ to) × (to ≤ length (now frame)) ⌝ }
+    requires { ⌜ seen stated ≡ look limit (take held (now store)) ⌝ }
     ensures { λ r. ⌜ seen r ≡ look limit (take held (now (store .entry)) ++ take (to - from) (drop from (now (frame .entry)))) ⌝ }
 {
-    if MOST_HEADER <= held {
-        return packets::read_length(limit, &store[..held]);
+    match stated {
+        Seen::Damaged => Seen::Damaged,
+        Seen::Whole { total } => Seen::Whole { total },
+        Seen::More => {
+            let start = start_of(store, held, frame, from, to);
+            let front = start.front;
+            let n = start.n;
+            packets::read_length(limit, &front[..n])
+        }
     }
-    let start = start_of(store, held, frame, from, to);
-    let front = start.front;
-    let n = start.n;
-    packets::read_length(limit, &front[..n])
 }

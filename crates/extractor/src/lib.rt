@@ -2,13 +2,16 @@
 ghost use mathlib.Core.Path.{_≡_};
 ghost use Prim.Native.Nat.{ℕ};
 ghost use mathlib.Core.List.{List, []};
+ghost use lib.ListN.{length};
 ghost use Rattle.octets.specs.Basics.{first};
 ghost use Rattle.frames.specs.Frame.{heading-rows};
-ghost use Rattle.extractor.specs.Records.{checked, enter-rows, step-rows, shown};
+ghost use Rattle.extractor.specs.Records.{checked, held-in, enter-rows, step-rows, shown};
 ghost use Rattle.extractor.specs.Answers.{enter-says, enter-answer, step-says, step-answer};
 ghost use Rattle.extractor.specs.Calls.{spend-says, spend-answer};
+ghost use Rattle.extractor.specs.Walks.{Says};
 use frames::Settings;
 use octets::refusals;
+use packets::Seen;
 
 mod arriving;
 mod held;
@@ -87,38 +90,32 @@ pub struct Spending {
     pub next: Extractor,
 }
 
-// What any call with this record and store is refused for before it looks at the moment and the frame; 0 where it is not.
-pub fn record_refusal(s: Settings, x: Extractor, store: &[u8]) -> u8
-    ensures { λ r. ⌜ r ≡ first (checked s x (now (store .entry)) []) ⌝ }
+// What any call with this record, whose octets held state this, and a store of so many octets is refused for before it looks at the
+// moment and the frame; 0 where it is not.
+fn checked(s: Settings, x: Extractor, stated: Seen, room: usize) -> u8
+    ensures { λ r. ⌜ ((store : List ℕ) → room ≡ length store → Says s store (held-in x) stated → r ≡ first (checked s x store [])) ⌝ }
 {
     if !frames::in_range(s) {
         return refusals::SETTING;
     }
-    held::refusal(
-        s.limit,
-        s.zone,
-        held::last_in(x),
-        held::held_in(x),
-        held::at_in(x),
-        store,
-    )
+    held::refusal(s, x, stated, room)
+}
+
+// The same of the record and the store themselves.
+pub fn record_refusal(s: Settings, x: Extractor, store: &[u8]) -> u8
+    ensures { λ r. ⌜ r ≡ first (checked s x (now (store .entry)) []) ⌝ }
+{
+    checked(s, x, held::stated(s, x, store), store.len())
 }
 
 // What entering is refused for, by what the frame's header is: settings out of range are its first refusal.
-fn enter_refusal(s: Settings, x: Extractor, store: &[u8], head: u8) -> u8
-    ensures { λ r. ⌜ ((f : List ℕ) → head ≡ first (heading-rows s f) → r ≡ first (enter-rows s x (now (store .entry)) f)) ⌝ }
+fn enter_refusal(s: Settings, x: Extractor, stated: Seen, room: usize, head: u8) -> u8
+    ensures { λ r. ⌜ ((store f : List ℕ) → room ≡ length store → Says s store (held-in x) stated → head ≡ first (heading-rows s f) → r ≡ first (enter-rows s x store f)) ⌝ }
 {
     if head == refusals::SETTING {
         return refusals::SETTING;
     }
-    let of_record = held::refusal(
-        s.limit,
-        s.zone,
-        held::last_in(x),
-        held::held_in(x),
-        held::at_in(x),
-        store,
-    );
+    let of_record = held::refusal(s, x, stated, room);
     if of_record != 0 {
         return of_record;
     }
@@ -133,28 +130,29 @@ pub fn enter(s: Settings, x: Extractor, store: &[u8], frame: &[u8]) -> Entering
     ensures { λ r. ⌜ enter-says r ≡ enter-answer s x (now (store .entry)) (now (frame .entry)) ⌝ }
 {
     let heading = frames::read_head(s, frame);
-    let refusal = enter_refusal(s, x, store, heading.refusal);
+    let stated = held::stated(s, x, store);
+    let refusal = enter_refusal(s, x, stated, store.len(), heading.refusal);
     if refusal != 0 {
         return Entering {
             entered: Entered::Refused { refusal },
             next: x,
         };
     }
-    arriving::taken(s, x, heading, store, frame)
+    arriving::taken(s, x, heading, stated, store, frame)
 }
 
-// What a step is refused for; 0 where for nothing.
-fn step_refusal(s: Settings, x: Extractor, store: &[u8], frame: &[u8]) -> u8
-    ensures { λ r. ⌜ r ≡ first (step-rows s x (now (store .entry)) (now (frame .entry))) ⌝ }
+// What a step is refused for, with a frame of so many octets; 0 where for nothing.
+fn step_refusal(s: Settings, x: Extractor, stated: Seen, room: usize, len: usize) -> u8
+    ensures { λ r. ⌜ ((store f : List ℕ) → room ≡ length store → len ≡ length f → Says s store (held-in x) stated → r ≡ first (step-rows s x store f)) ⌝ }
 {
-    let of_record = record_refusal(s, x, store);
+    let of_record = checked(s, x, stated, room);
     if of_record != 0 {
         return of_record;
     }
     if !held::is_entered(x) {
         return refusals::MOMENT;
     }
-    if !frames::has_length(s, frame.len()) {
+    if !frames::has_length(s, len) {
         return refusals::LENGTH;
     }
     0
@@ -164,25 +162,27 @@ fn step_refusal(s: Settings, x: Extractor, store: &[u8], frame: &[u8]) -> u8
 pub fn step(s: Settings, x: Extractor, store: &mut [u8], frame: &[u8]) -> Move
     ensures { λ r. ⌜ step-says r (now (frame .entry)) (now (store .exit)) ≡ step-answer s x (now (store .entry)) (now (frame .entry)) ⌝ }
 {
-    let refusal = step_refusal(s, x, store, frame);
+    let stated = held::stated(s, x, store);
+    let refusal = step_refusal(s, x, stated, store.len(), frame.len());
     if refusal != 0 {
         return Move {
             found: Found::Refused { refusal },
             next: x,
         };
     }
-    walking::moved(s, x, store, frame)
+    walking::moved(s, x, stated, store, frame)
 }
 
 // Spends a frame that is entered: all its steps, and nothing told of what they find.
 pub fn spend(s: Settings, x: Extractor, store: &mut [u8], frame: &[u8]) -> Spending
     ensures { λ r. ⌜ spend-says r (now (store .exit)) ≡ spend-answer s x (now (store .entry)) (now (frame .entry)) ⌝ }
 {
-    let refusal = step_refusal(s, x, store, frame);
+    let stated = held::stated(s, x, store);
+    let refusal = step_refusal(s, x, stated, store.len(), frame.len());
     if refusal != 0 {
         return Spending { refusal, next: x };
     }
-    let next = walking::spent(s, x, store, frame);
+    let next = walking::spent(s, x, stated, store, frame);
     Spending { refusal, next }
 }
 

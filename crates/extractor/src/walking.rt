@@ -3,10 +3,10 @@ ghost use mathlib.Core.Path.{_≡_};
 ghost use Prim.Native.Nat.{_+_, _-_, _≤_};
 ghost use lib.ListN.{length, take, drop};
 ghost use Rattle.octets.specs.Basics.{first};
-ghost use Rattle.extractor.specs.Records.{step-rows, step, kept-for-later};
+ghost use Rattle.extractor.specs.Records.{step-rows, step, kept-for-later, held-in};
 ghost use Rattle.extractor.specs.Answers.{stepped};
 ghost use Rattle.extractor.specs.Calls.{through};
-ghost use Rattle.extractor.specs.Walks.{Walks, at-rest};
+ghost use Rattle.extractor.specs.Walks.{Says, Walks, at-rest};
 use crate::Extractor;
 use crate::Found;
 use crate::Move;
@@ -73,12 +73,20 @@ fn walk(s: Settings, last: u32, at: usize, store: &mut [u8], frame: &[u8]) -> Mo
 }
 
 // A step with octets held, before the zone: their packet is completed at their end, or all of the zone joins them.
-fn complete(s: Settings, last: u32, held: usize, store: &mut [u8], frame: &[u8]) -> Move
+fn complete(
+    s: Settings,
+    last: u32,
+    held: usize,
+    stated: Seen,
+    store: &mut [u8],
+    frame: &[u8],
+) -> Move
     requires { ⌜ Walks s held 0 (now store) (now frame) × (held ≡ 0 → ⊥) ⌝ }
+    requires { ⌜ Says s (now store) held stated ⌝ }
     ensures { λ r. ⌜ stepped r (now (store .exit)) ≡ step s (now (frame .entry)) (now (store .entry)) (Extractor.Walking last held 0) ⌝ }
 {
     let to = ZONE_AT + s.zone;
-    let length = length_across(s.limit, store, held, frame, ZONE_AT, to);
+    let length = length_across(s.limit, stated, store, held, frame, ZONE_AT, to);
     match at_hand(held + s.zone, length) {
         Seen::Damaged => abandoned(last),
         Seen::More => keep(last, held, store, frame, ZONE_AT, to),
@@ -106,8 +114,9 @@ fn at_rest(x: Extractor) -> Extractor
 }
 
 // One step of a call that is not refused.
-pub(crate) fn moved(s: Settings, x: Extractor, store: &mut [u8], frame: &[u8]) -> Move
+pub(crate) fn moved(s: Settings, x: Extractor, stated: Seen, store: &mut [u8], frame: &[u8]) -> Move
     requires { ⌜ first (step-rows s x (now store) (now frame)) ≡ 0 ⌝ }
+    requires { ⌜ Says s (now store) (held-in x) stated ⌝ }
     ensures { λ r. ⌜ stepped r (now (store .exit)) ≡ step s (now (frame .entry)) (now (store .entry)) x ⌝ }
 {
     let Extractor::Walking { last, held, at } = x else {
@@ -119,7 +128,7 @@ pub(crate) fn moved(s: Settings, x: Extractor, store: &mut [u8], frame: &[u8]) -
     if held == 0 {
         return walk(s, last, at, store, frame);
     }
-    complete(s, last, held, store, frame)
+    complete(s, last, held, stated, store, frame)
 }
 
 // All the steps from `at` on, with nothing held: the record after the last one.
@@ -140,8 +149,15 @@ fn walk_out(s: Settings, last: u32, at: usize, store: &mut [u8], frame: &[u8]) -
 }
 
 // All the steps of a call that is not refused: octets are held before the first one alone.
-pub(crate) fn spent(s: Settings, x: Extractor, store: &mut [u8], frame: &[u8]) -> Extractor
+pub(crate) fn spent(
+    s: Settings,
+    x: Extractor,
+    stated: Seen,
+    store: &mut [u8],
+    frame: &[u8],
+) -> Extractor
     requires { ⌜ first (step-rows s x (now store) (now frame)) ≡ 0 ⌝ }
+    requires { ⌜ Says s (now store) (held-in x) stated ⌝ }
     ensures { λ r. ⌜ r ≡ through s (now (frame .entry)) x (now (store .entry)) .next ⌝ }
     ensures { λ _. ⌜ now (store .exit) ≡ through s (now (frame .entry)) x (now (store .entry)) .store ⌝ }
 {
@@ -151,7 +167,7 @@ pub(crate) fn spent(s: Settings, x: Extractor, store: &mut [u8], frame: &[u8]) -
     if held == 0 {
         return walk_out(s, last, at, store, frame);
     }
-    let step = complete(s, last, held, store, frame);
+    let step = complete(s, last, held, stated, store, frame);
     let next = step.next;
     let Extractor::Walking { at, .. } = next else {
         return at_rest(next);

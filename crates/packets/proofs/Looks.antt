@@ -3,7 +3,7 @@
 use mathlib.Core.Path.{_≡_, refl, sym, ap, _∙_}
 use mathlib.Core.Logic.{inl, inr}
 use mathlib.Core.List.{List, [], _∷_}
-use Prim.Native.Nat.{ℕ, zero, suc, _+_, _-_, _/_, _≤_}
+use Prim.Native.Nat.{ℕ, zero, suc, _+_, _-_, _/_, _≤_, _<_}
 use native.Mathlib.Omega.{arith}
 use lib.ListN.{length, take, drop, getD}
 use lib.Dec.{ltb, eqb}
@@ -19,6 +19,15 @@ counted-alike : (limit len size m n : ℕ) → (size ≤ len → m ≡ n) → co
 unfolding counted
 counted-alike limit len size m n e =
     split size len (λ h. ap (counted limit len size) (e h)) (λ h. simp (lt-ltb len size h))
+
+-- a header that is not whole, and one that is
+pub counted-short : (limit len size total : ℕ) → len < size → counted limit len size total ≡ more
+unfolding counted
+counted-short limit len size total h = rw (lt-ltb len size h) refl
+
+pub counted-long : (limit len size total : ℕ) → size ≤ len → counted limit len size total ≡ sized limit size total
+unfolding counted
+counted-long limit len size total h = rw (le-ltb len size h) refl
 
 -- a header that is whole and within its bounds says its total
 pub counted-whole : (limit len size total : ℕ) → size ≤ len → size ≤ total → total ≤ limit → counted limit len size total ≡ whole total

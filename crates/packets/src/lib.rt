@@ -3,7 +3,7 @@ ghost use mathlib.Core.Path.{_≡_};
 ghost use Prim.Native.Nat.{_/_, _≤_};
 ghost use lib.ListN.{length, getD};
 ghost use Rattle.octets.specs.Basics.{and, read, number-at};
-ghost use Rattle.packets.specs.Packet.{whole, limit-in-range, apid, OfAKind, packet-version, protocol-of, length-of-length, header-length, sized, counted, encapsulation, look, is-idle, well-formed};
+ghost use Rattle.packets.specs.Packet.{whole, limit-in-range, apid, OfAKind, packet-version, protocol-of, length-of-length, header-length, sized, encapsulation, look, is-idle, well-formed};
 ghost use Rattle.packets.specs.Header.{seen, told, reading, answer};
 use octets::Place;
 use octets::limits;
@@ -117,16 +117,6 @@ fn sized(limit: usize, size: usize, total: usize) -> Seen
     Seen::Whole { total }
 }
 
-// The same of a header of which `len` octets are there.
-fn counted(limit: usize, len: usize, size: usize, total: usize) -> Seen
-    ensures { λ r. ⌜ seen r ≡ counted limit len size total ⌝ }
-{
-    if len < size {
-        return Seen::More;
-    }
-    sized(limit, size, total)
-}
-
 // The length field of an encapsulation header, its second half; 0 where it is not all there.
 fn stated(start: &[u8], code: u8) -> u32
     ensures { λ r. ⌜ r ≡ number-at (header-length code / 2) (header-length code / 2) (now (start .entry)) ⌝ }
@@ -150,14 +140,17 @@ fn total_of(length: u32) -> usize
 fn encapsulation(limit: usize, protocol: u8, code: u8, start: &[u8]) -> Seen
     ensures { λ r. ⌜ seen r ≡ encapsulation limit protocol code (now (start .entry)) ⌝ }
 {
-    if code != 0 {
-        let total = total_of(stated(start, code));
-        return counted(limit, start.len(), header_length(code), total);
+    if code == 0 {
+        if protocol == IDLE_PROTOCOL {
+            return Seen::Whole { total: 1 };
+        }
+        return Seen::Damaged;
     }
-    if protocol == IDLE_PROTOCOL {
-        return Seen::Whole { total: 1 };
+    let size = header_length(code);
+    if start.len() < size {
+        return Seen::More;
     }
-    Seen::Damaged
+    sized(limit, size, total_of(stated(start, code)))
 }
 
 // A field of one of a packet's octets.
@@ -204,12 +197,11 @@ pub fn read_length(limit: usize, start: &[u8]) -> Seen
     }
     let version = version(start);
     if version == SPACE_VERSION {
-        return counted(
-            limit,
-            len,
-            SPACE_HEADER,
-            octets::number2(start, 4) as usize + LENGTH_LESS,
-        );
+        if len < SPACE_HEADER {
+            return Seen::More;
+        }
+        let total = octets::number2(start, 4) as usize + LENGTH_LESS;
+        return sized(limit, SPACE_HEADER, total);
     }
     if version == ENCAPSULATION_VERSION {
         return encapsulation(limit, protocol(start), length_of_length(start), start);

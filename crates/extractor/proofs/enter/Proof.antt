@@ -13,19 +13,20 @@ use Rattle.extractor.proofs.enter.Tie as tie
 
 -- the first row that holds, at the place where it is found
 its-refusal : (c : tie.After-enter-refusal)
-    → let a = c .before .before .before .before .args in
+    → let a = c .before .before .before .before .before .args in
     c .enter-refusal .result ≡ first (enter-rows (a .s) (a .x) (a .store .now) (a .frame .now))
 its-refusal c =
-    let a = c .before .before .before .before .args in
-    c .enter-refusal .ensures (a .frame .now)
-    (ap (λ (h : Heading). h .refusal) (c .before .read-head .ensures) ∙ heading-refusal (a .s) (a .frame .now))
+    let a = c .before .before .before .before .before .args in
+    c .enter-refusal .ensures (a .store .now) (a .frame .now) refl (c .before .stated .ensures)
+    (ap (λ (h : Heading). h .refusal) (c .before .before .read-head .ensures) ∙ heading-refusal (a .s) (a .frame .now))
 
 returns : tie.Need-returns
 unfolding enter-answer entered-numbers
 returns c = rw (← its-refusal (c .before), ne-eqb _ _ (c .if1 .taken)) refl
 
 taken-requires : tie.Need-taken-requires
-taken-requires c κs = (sym (its-refusal (c .before)) ∙ c .if1 .left, c .before .before .read-head .ensures)
+taken-requires c κs =
+    (sym (its-refusal (c .before)) ∙ c .if1 .left, (c .before .before .before .read-head .ensures, c .before .before .stated .ensures))
 
 returns-2 : tie.Need-returns-2
 unfolding enter-answer
@@ -33,4 +34,11 @@ returns-2 c = rw (← its-refusal (c .before .before), eq-eqb _ _ (c .before .if
 
 pub enter-spec : {M : Type 1} → statement M
 enter-spec =
-    tie.close (tie.spec (λ c κs. search needs) (λ c κs. search needs) returns taken-requires returns-2)
+    tie.close
+    (tie.spec
+    (λ c κs. search needs)
+    (λ c κs. search needs)
+    (λ c κs. search needs)
+    returns
+    taken-requires
+    returns-2)

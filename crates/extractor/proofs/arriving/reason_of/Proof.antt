@@ -6,6 +6,7 @@ use borrow.Author.Tests.{not-true, not-false}
 use lib.ListN.{take}
 use Rattle.extractor.specs.Extract.{in-step, reason-in}
 use Rattle.extractor.specs.Records.{is-in-step}
+use Rattle.extractor.specs.Walks.{Says}
 use Rattle.extractor.proofs.Unrefused.{arrives, arriving-walks}
 use Rattle.extractor.proofs.Arrivals.{lost-reason, astray-reason, held-reason}
 use borrow.Author.Needs.{needs}
@@ -28,8 +29,10 @@ returns-2 c =
 pointer-reason-requires : tie.Need-pointer-reason-requires
 pointer-reason-requires c κs =
     let at-start = c .before .before .before .before .before .before in
-    let a = at-start .args in
-    (rw (c .held-in .ensures) (arriving-walks (arrives (a .s) (a .x) (a .store .now) (a .frame .now) (at-start .pre .0))), at-start .pre .1 .1)
+    let a = at-start .args in (
+      rw (c .held-in .ensures) (arriving-walks (arrives (a .s) (a .x) (a .store .now) (a .frame .now) (at-start .pre .0))),
+      (at-start .pre .1 .1 .0, subst (λ (h : ℕ). Says (a .s) (a .store .now) h (a .stated)) (sym (c .held-in .ensures)) (at-start .pre .1 .1 .1)),
+    )
 
 returns-3 : tie.Need-returns-3
 returns-3 c =

@@ -59,10 +59,10 @@ reason-of-requires c κs =
     let start = c .before .before .before .before in
     let a = start .args in
     let admits = start .pre .0 in
-    let says = start .pre .1 in
+    let says = start .pre .1 .0 in
     let counted = counts (a .s) (a .x) (a .heading) (a .store .now) (a .frame .now) admits says in
     let pointed = points (a .s) (a .x) (a .heading) (a .store .now) (a .frame .now) admits says in
-    (admits, (c .lost-since .ensures ∙ ap (lost-since (a .s) (last-count (a .x))) counted, pointed))
+    (admits, (c .lost-since .ensures ∙ ap (lost-since (a .s) (last-count (a .x))) counted, (pointed, start .pre .1 .1)))
 
 returns : tie.Need-returns
 returns c =
@@ -70,7 +70,7 @@ returns c =
     let at-reason = at-held .before in
     let start = at-reason .before .before .before .before .before in
     let a = start .args in
-    kept (a .s) (a .x) (a .heading) (a .store .now) (a .frame .now) (start .pre .0) (start .pre .1)
+    kept (a .s) (a .x) (a .heading) (a .store .now) (a .frame .now) (start .pre .0) (start .pre .1 .0)
     (at-reason .before .lost-since .ensures) (at-reason .reason-of .ensures) (at-held .held-in .ensures)
     (c .before .before .if1 .taken) (c .before .is-in-step .ensures) (c .set-off .ensures)
 
@@ -80,7 +80,7 @@ returns-2 c =
     let at-reason = at-held .before in
     let start = at-reason .before .before .before .before .before in
     let a = start .args in
-    lost-all (a .s) (a .x) (a .heading) (a .store .now) (a .frame .now) (start .pre .0) (start .pre .1)
+    lost-all (a .s) (a .x) (a .heading) (a .store .now) (a .frame .now) (start .pre .0) (start .pre .1 .0)
     (at-reason .before .lost-since .ensures) (at-reason .reason-of .ensures) (at-held .held-in .ensures)
     (c .before .if1 .left) (c .set-off2 .ensures)
 

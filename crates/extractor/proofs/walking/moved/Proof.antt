@@ -7,8 +7,8 @@ use types.Run.{OneOf, miss}
 use denote.Enum.Declared.{tagOf}
 use Rattle.octets.specs.Basics.{first}
 use Rattle.frames.specs.declared.Settings.{Settings}
-use Rattle.extractor.specs.Records.{steps-to, step, step-rows}
-use Rattle.extractor.specs.Walks.{at-rest}
+use Rattle.extractor.specs.Records.{steps-to, step, step-rows, held-in}
+use Rattle.extractor.specs.Walks.{Says, at-rest}
 use Rattle.extractor.specs.declared.Extractor.{Extractor}
 use Rattle.extractor.specs.declared.Extractor.the-variants.{Fresh, Astray, InStep, Walking, Leaving}
 use Rattle.extractor.specs.declared.Found.the-variants.{Spent}
@@ -21,7 +21,7 @@ use Rattle.extractor.proofs.walking.moved.Tie as tie
 -- what is not refused, of the record as the arm knows it
 unrefused : (c : tie.Start) {x : Extractor} → c .args .x ≡ x → first (step-rows (c .args .s) x (c .args .store .now) (c .args .frame .now)) ≡ 0
 unrefused c e =
-    subst (λ (x : Extractor). first (step-rows (c .args .s) x (c .args .store .now) (c .args .frame .now)) ≡ 0) e (c .pre)
+    subst (λ (x : Extractor). first (step-rows (c .args .s) x (c .args .store .now) (c .args .frame .now)) ≡ 0) e (c .pre .0)
 
 -- a record that is not walked is spent
 rested : (s : Settings) (f store : List ℕ) (x : Extractor) → OneOf (0 ∷ 1 ∷ 2 ∷ 4 ∷ []) (tagOf the-type x)
@@ -48,8 +48,10 @@ complete-requires : tie.Need-complete-requires
 complete-requires c κs =
     let at-x = c .before .before .before in
     let b = at-x .before .before .before .before in
-    let held = c .before .if1 .left in
-    (walks-held (b .args .s) _ _ _ (b .args .store .now) (b .args .frame .now) (unrefused b (at-x .x .given .1)) held .1, held)
+    let held = c .before .if1 .left in (
+      (walks-held (b .args .s) _ _ _ (b .args .store .now) (b .args .frame .now) (unrefused b (at-x .x .given .1)) held .1, held),
+      subst (λ (x : Extractor). Says (b .args .s) (b .args .store .now) (held-in x) (b .args .stated)) (at-x .x .given .1) (b .pre .1),
+    )
 
 returns-2 : tie.Need-returns-2
 returns-2 c =

@@ -3,8 +3,9 @@
 use mathlib.Core.Path.{_≡_, sym, ap, _∙_, subst}
 use Prim.Native.Nat.{ℕ}
 use Rattle.octets.specs.Basics.{first}
-use Rattle.extractor.specs.Records.{step-rows}
+use Rattle.extractor.specs.Records.{step-rows, held-in}
 use Rattle.extractor.specs.Calls.{Finds, through}
+use Rattle.extractor.specs.Walks.{Says}
 use Rattle.extractor.specs.declared.Extractor.{Extractor}
 use Rattle.extractor.specs.declared.Extractor.the-variants.{Walking}
 use Rattle.extractor.proofs.Spends.{Rest, rest-after, none-after, none-before}
@@ -16,13 +17,13 @@ use Rattle.extractor.proofs.walking.spent.Tie as tie
 -- what is not refused, of the record as the code knows it
 unrefused : (c : tie.Start) {x : Extractor} → c .args .x ≡ x → first (step-rows (c .args .s) x (c .args .store .now) (c .args .frame .now)) ≡ 0
 unrefused c e =
-    subst (λ (x : Extractor). first (step-rows (c .args .s) x (c .args .store .now) (c .args .frame .now)) ≡ 0) e (c .pre)
+    subst (λ (x : Extractor). first (step-rows (c .args .s) x (c .args .store .now) (c .args .frame .now)) ≡ 0) e (c .pre .0)
 
 returns : tie.Need-returns
 returns c =
     let at-start = c .before .before .before .before in
     let a = at-start .args in
-    let p = none-before (a .s) (a .frame .now) (a .x) (a .store .now) (at-start .pre) (c .before .match .keys2) in
+    let p = none-before (a .s) (a .frame .now) (a .x) (a .store .now) (at-start .pre .0) (c .before .match .keys2) in
     (c .at-rest .ensures ∙ p .0, p .1)
 
 walk-out-requires : tie.Need-walk-out-requires
@@ -40,8 +41,10 @@ complete-requires : tie.Need-complete-requires
 complete-requires c κs =
     let at-x = c .before .before .before in
     let b = at-x .before .before .before .before in
-    let held = c .before .if1 .left in
-    (walks-held (b .args .s) _ _ _ (b .args .store .now) (b .args .frame .now) (unrefused b (at-x .x .given .1)) held .1, held)
+    let held = c .before .if1 .left in (
+      (walks-held (b .args .s) _ _ _ (b .args .store .now) (b .args .frame .now) (unrefused b (at-x .x .given .1)) held .1, held),
+      subst (λ (x : Extractor). Says (b .args .s) (b .args .store .now) (held-in x) (b .args .stated)) (at-x .x .given .1) (b .pre .1),
+    )
 
 -- what is left to do once the octets held are completed, of the record then
 module _ (c : tie.After-complete) where
@@ -61,7 +64,7 @@ module _ (c : tie.After-complete) where
   all-left = through (start .args .s) (start .args .frame .now) (start .args .x) (start .args .store .now)
 
   abbrev Left : Extractor → Type 0
-  Left x = Rest (start .args .s) (start .args .frame .now) all-left last 0 x (c .complete .last .1 .1 .1 .0)
+  Left x = Rest (start .args .s) (start .args .frame .now) all-left last 0 x (c .complete .last .1 .1 .1 .1 .0)
 
   before-zone : start .args .x ≡ Walking last held 0
   before-zone =
@@ -73,9 +76,9 @@ module _ (c : tie.After-complete) where
   left =
       subst
       (λ (x : Extractor). Rest (start .args .s) (start .args .frame .now) (through (start .args .s) (start .args .frame .now) x (start .args .store .now))
-      last 0 (c .complete .result .next) (c .complete .last .1 .1 .1 .0))
+      last 0 (c .complete .result .next) (c .complete .last .1 .1 .1 .1 .0))
       (sym before-zone)
-      (rest-after (start .args .s) (start .args .frame .now) last held 0 (start .args .store .now) (c .complete .result) (c .complete .last .1 .1 .1 .0)
+      (rest-after (start .args .s) (start .args .frame .now) last held 0 (start .args .store .now) (c .complete .result) (c .complete .last .1 .1 .1 .1 .0)
       (unrefused start before-zone) (c .complete .ensures))
 
 returns-3 : tie.Need-returns-3
@@ -83,7 +86,7 @@ returns-3 c =
     let at-complete = c .before .before .before .before in
     let a = start at-complete .args in
     let p = none-after (a .s) (a .frame .now) (all-left at-complete) (last at-complete) 0 (at-complete .complete .result .next)
-    (at-complete .complete .last .1 .1 .1 .0) (c .before .match2 .keys2) (left at-complete) in
+    (at-complete .complete .last .1 .1 .1 .1 .0) (c .before .match2 .keys2) (left at-complete) in
     (c .at-rest2 .ensures ∙ p .0, p .1)
 
 -- the same where it walks on
