@@ -74,6 +74,7 @@ unfolding computing.arrays
 outside = record {
   put = refl;
   flush = refl;
+  idle = refl;
   enter = refl;
   step = refl;
   judge = refl;

@@ -90,8 +90,7 @@ pub struct Spending {
     pub next: Extractor,
 }
 
-// What any call with this record, whose octets held state this, and a store of so many octets is refused for before it looks at the
-// moment and the frame; 0 where it is not.
+// The refusal of a record whose octets held state this, over a store of so many octets: what `record_refusal` answers.
 fn checked(s: Settings, x: Extractor, stated: Seen, room: usize) -> u8
     ensures { λ r. ⌜ ((store : List ℕ) → room ≡ length store → Says s store (held-in x) stated → r ≡ first (checked s x store [])) ⌝ }
 {
@@ -101,7 +100,7 @@ fn checked(s: Settings, x: Extractor, stated: Seen, room: usize) -> u8
     held::refusal(s, x, stated, room)
 }
 
-// The same of the record and the store themselves.
+// What any call with this record and store is refused for before it looks at the moment and the frame; 0 where it is not.
 pub fn record_refusal(s: Settings, x: Extractor, store: &[u8]) -> u8
     ensures { λ r. ⌜ r ≡ first (checked s x (now (store .entry)) []) ⌝ }
 {

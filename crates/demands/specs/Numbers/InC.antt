@@ -2,12 +2,12 @@
 use Prim.Native.Nat.{ℕ}
 use mathlib.Core.Path.{_≡_}
 use mathlib.Core.List.{List, [], _∷_, _++_, map}
-use Rattle.multiplexer.specs.Calls.{to-put, to-flush}
+use Rattle.multiplexer.specs.Calls.{to-put, to-flush, to-idle}
 use Rattle.exports.specs.Left.{left}
 use Rattle.exports.specs.Channel.{settings-of}
 use Rattle.exports.specs.Packet.{header-leaves, formed-leaves, wrap-leaves, unwrap-leaves, unit-leaves}
 use Rattle.exports.specs.Spaces.{read-space-leaves, write-space-leaves}
-use Rattle.exports.specs.Mux.{put-numbers, flush-numbers, begin-leaves, mux-leaves}
+use Rattle.exports.specs.Mux.{put-numbers, flush-numbers, no-numbers, begin-leaves, mux-leaves}
 use Rattle.exports.specs.Extract.{enter-leaves, step-leaves, show-leaves}
 use Rattle.exports.specs.Judging.{judge-leaves, close-leaves}
 use Rattle.exports.specs.Bits.{bit-settings-of, write-leaves, read-leaves}
@@ -125,7 +125,7 @@ pub record Short : Type 0 where
   pub bits : write-leaves (lent 3) (lent 1) [] 0 (lent 2) ∷ write-leaves (lent 4) [] [] 0 (lent 2) ∷ read-leaves (lent 3) (lent 2) [] (lent 6) ∷ read-leaves (lent 4) (lent 1) [] (lent 6) ∷ read-leaves (lent 4) (lent 2) [] (lent 5) ∷ []
       ≡ left 2 (lent 1) (lent 2) [] ∷ left 2 [] (lent 2) [] ∷ left 2 (lent 2) [] (lent 6) ∷ left 2 (lent 1) [] (lent 6) ∷ left 2 (lent 2) [] (lent 5) ∷ []
 
--- Settings that cannot be are refused by 1, in every call: a spacecraft above 255, a channel above 62 and a fill above 255, however great; and all stays as it was.
+-- Settings that cannot be are refused by 1, in every call that takes them: a spacecraft above 255, a channel above 62 and a fill above 255, however great; and all stays as it was.
 abbrev pub outside : List (List ℕ)
 outside =
     (256 ∷ 3 ∷ 10 ∷ 12 ∷ 0x55 ∷ [])
@@ -148,6 +148,8 @@ pub record Outside : Type 0 where
       ≡ each outside (left 1 (4 ∷ 0 ∷ 2047 ∷ 0 ∷ []) (lent 18) (0 ∷ 0 ∷ []))
   pub flush : map (λ (s : List ℕ). mux-leaves to-flush 1 flush-numbers s (4 ∷ 8 ∷ 0 ∷ 0 ∷ []) (lent 18) (lent 1)) outside
       ≡ each outside (left 1 (4 ∷ 8 ∷ 0 ∷ 0 ∷ []) (lent 18) (0 ∷ []))
+  pub idle : map (λ (s : List ℕ). mux-leaves to-idle 0 no-numbers s (4 ∷ 0 ∷ 2047 ∷ 0 ∷ []) (lent 18) []) outside
+      ≡ each outside (left 1 (4 ∷ 0 ∷ 2047 ∷ 0 ∷ []) (lent 18) [])
   pub enter : map (λ (s : List ℕ). enter-leaves s (2 ∷ 0 ∷ 2 ∷ 0 ∷ []) store (frame 1 0x00 0x03 rest) (lent 6)) outside
       ≡ each outside (left 1 (2 ∷ 0 ∷ 2 ∷ 0 ∷ []) [] (0 ∷ 0 ∷ 0 ∷ 0 ∷ 0 ∷ 0 ∷ []))
   pub step : map (λ (s : List ℕ). step-leaves s (3 ∷ 1 ∷ 2 ∷ 0 ∷ []) store (frame 1 0x00 0x03 rest) (lent 4)) outside

@@ -4,7 +4,7 @@ use mathlib.Core.Path.{_≡_}
 use mathlib.Core.List.{List, [], _∷_, _++_, map}
 use Rattle.frames.specs.declared.Settings.{Settings}
 use Rattle.extractor.specs.Answers.{StepSaid, step-answer}
-use Rattle.extractor.specs.Calls.{SpendSaid, spend-answer}
+use Rattle.extractor.specs.Calls.{SpendSaid, spends-to, spend-answer}
 use Rattle.extractor.specs.declared.Extractor.{Extractor}
 use Rattle.extractor.specs.declared.Extractor.the-variants.{Fresh, Astray, InStep, Walking, Leaving}
 use Rattle.demands.specs.Numbers.Samples.{small, broken, least, frame, lent, ten}
@@ -76,10 +76,6 @@ pub record Events : Type 0 where
       ((0x07 ∷ 0xFE ∷ 0 ∷ 0 ∷ 0 ∷ 0 ∷ 0 ∷ []) ∷ (0x03 ∷ 0xFF ∷ 0 ∷ 0 ∷ 0 ∷ 0 ∷ 0 ∷ []) ∷ (0xE5 ∷ 7 ∷ 0 ∷ 0 ∷ 0 ∷ 0 ∷ 0 ∷ []) ∷ (0xF1 ∷ 7 ∷ 0 ∷ 0 ∷ 0 ∷ 0 ∷ 0 ∷ []) ∷ [])
       ≡ 1 ∷ 1 ∷ 1 ∷ 1 ∷ []
 
--- what spending a frame answers, and leaves
-abbrev pub comes-to : ℕ → Extractor → List ℕ → SpendSaid
-comes-to refusal next store = record { refusal = refusal; next = next; store = store }
-
 -- the second sample frame spent, over a store that begins so
 abbrev pub spends : Extractor → List ℕ → SpendSaid
 spends x store = spend-answer small x (store ++ lent 12) (frame 1 0 3 second)
@@ -92,11 +88,11 @@ pub record Spending : Type 0 where
       ∷ spend-answer small (InStep 0 0) (lent 12) (frame 0 0 0 ten)
       ∷ spend-answer small (Walking 0 0 0) (lent 12) (frame 0 0 0 (0x00 ∷ ten))
       ∷ []
-      ≡ comes-to 1 (Leaving 0) (lent 12)
-      ∷ comes-to 2 (Leaving 0) (lent 11)
-      ∷ comes-to 10 (Leaving 16777216) (lent 12)
-      ∷ comes-to 9 (InStep 0 0) (lent 12)
-      ∷ comes-to 3 (Walking 0 0 0) (lent 12)
+      ≡ spends-to 1 (Leaving 0) (lent 12)
+      ∷ spends-to 2 (Leaving 0) (lent 11)
+      ∷ spends-to 10 (Leaving 16777216) (lent 12)
+      ∷ spends-to 9 (InStep 0 0) (lent 12)
+      ∷ spends-to 3 (Walking 0 0 0) (lent 12)
       ∷ []
   pub order : spend-answer broken (Astray 16777216) [] []
       ∷ spend-answer small (Astray 16777216) [] []
@@ -104,20 +100,20 @@ pub record Spending : Type 0 where
       ∷ spend-answer small (Astray 0) (lent 12) []
       ∷ spend-answer small (Leaving 0) (lent 12) []
       ∷ []
-      ≡ comes-to 1 (Astray 16777216) []
-      ∷ comes-to 2 (Astray 16777216) []
-      ∷ comes-to 10 (Astray 16777216) (lent 12)
-      ∷ comes-to 9 (Astray 0) (lent 12)
-      ∷ comes-to 3 (Leaving 0) (lent 12)
+      ≡ spends-to 1 (Astray 16777216) []
+      ∷ spends-to 2 (Astray 16777216) []
+      ∷ spends-to 10 (Astray 16777216) (lent 12)
+      ∷ spends-to 9 (Astray 0) (lent 12)
+      ∷ spends-to 3 (Leaving 0) (lent 12)
       ∷ []
   -- a packet is completed behind the held octets, and the idle packet after it ends the zone
-  pub completed : spends (Walking 1 2 0) (0xE9 ∷ 0x05 ∷ []) ≡ comes-to 0 (InStep 1 0) (0xE9 ∷ 0x05 ∷ 0x11 ∷ 0x22 ∷ 0x33 ∷ lent 9)
-  pub walked : map (λ (at : ℕ). spends (Walking 1 0 at) []) (3 ∷ 10 ∷ []) ≡ comes-to 0 (InStep 1 0) (lent 12) ∷ comes-to 0 (InStep 1 0) (lent 12) ∷ []
+  pub completed : spends (Walking 1 2 0) (0xE9 ∷ 0x05 ∷ []) ≡ spends-to 0 (InStep 1 0) (0xE9 ∷ 0x05 ∷ 0x11 ∷ 0x22 ∷ 0x33 ∷ lent 9)
+  pub walked : map (λ (at : ℕ). spends (Walking 1 0 at) []) (3 ∷ 10 ∷ []) ≡ spends-to 0 (InStep 1 0) (lent 12) ∷ spends-to 0 (InStep 1 0) (lent 12) ∷ []
   -- damage, in the zone or with the held octets, leaves it out of step with its last count, and the store as it was
-  pub damaged : spends (Walking 1 0 2) [] ≡ comes-to 0 (Astray 1) (lent 12)
-  pub damaged-held : spend-answer small (Walking 1 1 0) (0xE9 ∷ lent 11) (frame 1 0 3 (0x01 ∷ lent 9)) ≡ comes-to 0 (Astray 1) (0xE9 ∷ lent 11)
-  pub left : spends (Leaving 1) [] ≡ comes-to 0 (Astray 1) (lent 12)
+  pub damaged : spends (Walking 1 0 2) [] ≡ spends-to 0 (Astray 1) (lent 12)
+  pub damaged-held : spend-answer small (Walking 1 1 0) (0xE9 ∷ lent 11) (frame 1 0 3 (0x01 ∷ lent 9)) ≡ spends-to 0 (Astray 1) (0xE9 ∷ lent 11)
+  pub left : spends (Leaving 1) [] ≡ spends-to 0 (Astray 1) (lent 12)
   -- what is unfinished at the zone's end is held
-  pub appended : spend-answer least (Walking 1 1 0) (0x00 ∷ lent 7) (frame 1 0x07 0xFF (0x05 ∷ [])) ≡ comes-to 0 (InStep 1 2) (0x00 ∷ 0x05 ∷ lent 6)
+  pub appended : spend-answer least (Walking 1 1 0) (0x00 ∷ lent 7) (frame 1 0x07 0xFF (0x05 ∷ [])) ≡ spends-to 0 (InStep 1 2) (0x00 ∷ 0x05 ∷ lent 6)
   pub begun : spend-answer small (Walking 1 0 0) (lent 12) (frame 1 0 0 (0 ∷ 0 ∷ 0 ∷ 0 ∷ 0 ∷ 0 ∷ 0 ∷ 0x07 ∷ 0xFF ∷ 0xC0 ∷ []))
-      ≡ comes-to 0 (InStep 1 3) (0x07 ∷ 0xFF ∷ 0xC0 ∷ lent 9)
+      ≡ spends-to 0 (InStep 1 3) (0x07 ∷ 0xFF ∷ 0xC0 ∷ lent 9)
