@@ -8,9 +8,10 @@ use lib.Dec.{ltb}
 use lib.Pow.{mod-mod-pow}
 use lib.Pow as pow
 use borrow.Author.Tests.{lt-ltb, le-ltb}
-use Rattle.octets.specs.Basics.{pick, field, read}
+use Rattle.octets.specs.Basics.{pick}
+use Rattle.words.specs.Fields.{field, read}
 use Rattle.octets.proofs.Choices.{split}
-use Rattle.octets.proofs.Fields.{placed-read, placed-above, placed-lt}
+use Rattle.words.proofs.Fields.{placed-read, placed-above, placed-lt}
 use Rattle.bitstream.specs.Bitstream.{mixed, bit-place}
 
 -- a field that lies in the low bits of a word goes by these alone

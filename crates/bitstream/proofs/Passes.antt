@@ -1,7 +1,8 @@
 -- Sample pass 13, by computing.
 -- Assumes nothing.
 use mathlib.Core.Path.{refl}
-use Rattle.octets.specs.Basics.{octets, join, placed}
+use Rattle.octets.specs.Basics.{octets}
+use Rattle.words.specs.Fields.{join, placed}
 use Rattle.frames.specs.Link.{head-word, headers}
 use Rattle.frames.specs.BitFrame.{bit-head}
 use Rattle.bitstream.specs.Bitstream.{octets-for, pointer-for, valid-bits, mixed, last-octet, zone-with, frame-with}

@@ -8,8 +8,9 @@ use native.Mathlib.Omega.{arith}
 use lib.ListN.{length, take, drop, length-append, length-drop}
 use lib.Seq.{take-at, drop-at, getD-take, length-take-le}
 use borrow.Author.Tests.{le-leb, lt-ltb, eq-eqb}
-use Rattle.octets.specs.Basics.{AllOctets, pick, read, over, first}
-use Rattle.octets.proofs.Fields.{field-lt}
+use Rattle.octets.specs.Basics.{AllOctets, pick, over, first}
+use Rattle.words.specs.Fields.{read}
+use Rattle.words.proofs.Fields.{field-lt}
 use Rattle.octets.proofs.Fronts.{all-take, all-drop}
 use Rattle.octets.proofs.Written.{over-take}
 use Rattle.frames.specs.Link.{headers, zone-head, count-width}

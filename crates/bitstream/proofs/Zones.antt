@@ -8,7 +8,8 @@ use lib.ListN.{length, take, getD, replicate, length-append, length-replicate, g
 use lib.Seq.{length-take-le, getD-take, getD-append-add}
 use lib.Dec.{ltb}
 use borrow.Author.Tests.{lt-ltb, le-ltb, eq-eqb, ne-eqb}
-use Rattle.octets.specs.Basics.{AllOctets, pick, read}
+use Rattle.octets.specs.Basics.{AllOctets, pick}
+use Rattle.words.specs.Fields.{read}
 use Rattle.octets.proofs.Choices.{split, leb-iff}
 use Rattle.octets.proofs.Fronts.{octet-lt}
 use Rattle.frames.specs.declared.bits.BitSettings.{BitSettings}

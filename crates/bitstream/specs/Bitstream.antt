@@ -4,8 +4,9 @@ use mathlib.Core.List.{List, [], _∷_, _++_}
 use mathlib.Core.Bool.{Bool, true, false, not}
 use lib.ListN.{length, take, getD, replicate}
 use lib.Dec.{leb, ltb, eqb}
-use Rattle.octets.specs.Basics.{pick, and, or, read, write, over, Row, row, first}
-use Rattle.octets.specs.declared.Place.{Place}
+use Rattle.octets.specs.Basics.{pick, and, or, over, Row, row, first}
+use Rattle.words.specs.Fields.{read, write}
+use Rattle.words.specs.declared.Place.{Place}
 use Rattle.frames.specs.Link.{count-width, next-count}
 use Rattle.frames.specs.BitFrame.{bits-in-range, bit-frame-length, bit-frame-rows, bit-zone-of, bit-count, bit-replay, bit-pointer, bit-head, most-bits, fill-only, all-valid}
 use Rattle.frames.specs.declared.bits.BitSettings.{BitSettings}

@@ -10,8 +10,8 @@ use frames::ZONE_AT;
 use frames::bits::ALL_VALID;
 use frames::bits::BitSettings;
 use frames::bits::FILL_ONLY;
-use octets::Place;
 use octets::refusals;
+use words::Place;
 
 // What a writer keeps between calls: the count of the next frame.
 pub struct Writer {
@@ -87,7 +87,7 @@ fn mixed(k: u32, bits: u8, fill: u8) -> u8
         below: 0,
         width: 8 - k,
     };
-    octets::placed(bits as u64, rest, fill as u64) as u8
+    words::placed(bits as u64, rest, fill as u64) as u8
 }
 
 // Lays n bits over the zone of a frame, and fill to its end.

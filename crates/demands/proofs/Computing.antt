@@ -1,6 +1,7 @@
 -- What the rules compute with, crate by crate: to unfold one of these is to unfold all that its line names.
 -- Assumes nothing.
-use Rattle.octets.specs.Basics.{number-from, number, octets, field, join, placed, part, over, first, number-at, part-of, laid, laid-part}
+use Rattle.octets.specs.Basics.{number-from, number, octets, part, over, first, number-at, part-of, laid, laid-part}
+use Rattle.words.specs.Fields.{field, join, placed}
 use Rattle.packets.specs.Packet.{limit-in-range, sized, counted, space, header-length, encapsulation, look, states, well-formed, is-idle, key-of, size-of}
 use Rattle.packets.specs.Header.{told, reading, version-of, answer}
 use Rattle.packets.specs.Front.{first-octet, second-octet, front}

@@ -2,6 +2,7 @@
 -- Assumes nothing.
 use Rattle.demands.specs.Demand1.{Demand1}
 use Rattle.demands.proofs.calls.Octets.{of-octets}
+use Rattle.demands.proofs.calls.Words.{of-words}
 use Rattle.demands.proofs.calls.Arrays.{of-arrays}
 use Rattle.demands.proofs.calls.Packets.{of-packets}
 use Rattle.demands.proofs.calls.Space.{of-space}
@@ -16,6 +17,7 @@ use Rattle.demands.proofs.calls.Exports.{of-exports}
 pub demand-1 : Demand1
 demand-1 = record {
   octets = of-octets;
+  words = of-words;
   arrays = of-arrays;
   packets = of-packets;
   space = of-space;

@@ -1,7 +1,8 @@
 -- The table holds, by computing.
 -- Assumes nothing.
 use mathlib.Core.Path.{refl}
-use Rattle.octets.specs.Basics.{number-from, number, octets, field, part, first}
+use Rattle.octets.specs.Basics.{number-from, number, octets, part, first}
+use Rattle.words.specs.Fields.{field}
 use Rattle.packets.specs.Packet.{limit-in-range, look, space, encapsulation, counted, sized, header-length, is-idle, key-of, size-of}
 use Rattle.packets.specs.Header.{told, reading}
 use Rattle.packets.proofs.Passes as packets

@@ -12,7 +12,8 @@ use lib.Pow.{shr-shr}
 use lib.ListN.{length, take, drop, getD}
 use lib.Dec.{ltb, eqb}
 use borrow.Author.Tests.{le-ltb}
-use Rattle.octets.specs.Basics.{AllOctets, pick, number, number-at, field, first}
+use Rattle.octets.specs.Basics.{AllOctets, pick, number, number-at, first}
+use Rattle.words.specs.Fields.{field}
 use Rattle.octets.proofs.Choices.{apart}
 use Rattle.octets.proofs.Numbers.{run-lt, run-join, number-within, one-octet}
 use Rattle.octets.proofs.Tests.{test}

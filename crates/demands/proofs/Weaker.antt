@@ -1,7 +1,8 @@
 -- The runs that a weaker rule would carry, by computing.
 -- Assumes nothing.
 use mathlib.Core.Path.{refl}
-use Rattle.octets.specs.Basics.{number-from, number, field, part, first}
+use Rattle.octets.specs.Basics.{number-from, number, part, first}
+use Rattle.words.specs.Fields.{field}
 use Rattle.packets.specs.Packet.{look, space, encapsulation, counted, sized, header-length, is-idle}
 use Rattle.frames.specs.Link.{primary, zone-head, header-rows, count-width, next-count, missing}
 use Rattle.frames.specs.Frame.{frame-length, unused, frame-rows, zone-of}

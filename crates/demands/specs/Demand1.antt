@@ -2,6 +2,7 @@
 -- give, refusals by the table, and are determined by it. A refused call leaves the record and the octets that it was given.
 -- Each promise is the function's own contract. That a call ends and stays within its buffers is what the checker shows of each function.
 use Rattle.demands.specs.calls.Octets.{OfOctets}
+use Rattle.demands.specs.calls.Words.{OfWords}
 use Rattle.demands.specs.calls.Arrays.{OfArrays}
 use Rattle.demands.specs.calls.Packets.{OfPackets}
 use Rattle.demands.specs.calls.Space.{OfSpace}
@@ -15,6 +16,7 @@ use Rattle.demands.specs.calls.Exports.{OfExports}
 
 pub record Demand1 : Type 0 where
   pub octets : OfOctets
+  pub words : OfWords
   pub arrays : OfArrays
   pub packets : OfPackets
   pub space : OfSpace

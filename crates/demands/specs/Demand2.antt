@@ -4,7 +4,8 @@ use mathlib.Core.Path.{_≡_}
 use mathlib.Core.List.{List}
 use mathlib.Core.Bool.{true}
 use lib.ListN.{length, take}
-use Rattle.octets.specs.Basics.{AllOctets, field, placed, first}
+use Rattle.octets.specs.Basics.{AllOctets, first}
+use Rattle.words.specs.Fields.{field, placed}
 use Rattle.packets.specs.Wrap.{wrapped-total, wrap-rows}
 use Rattle.packets.specs.Wrap as packets
 use Rattle.space.specs.Space.{space-read-rows, space-rows, space-reading, space-writing}

@@ -1,4 +1,5 @@
 pub mod Octets
+pub mod Words
 pub mod Arrays
 pub mod Packets
 pub mod Space

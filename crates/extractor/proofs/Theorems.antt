@@ -8,7 +8,8 @@ use native.Mathlib.Omega.{arith}
 use lib.ListN.{length, drop}
 use lib.Dec.{eqb}
 use borrow.Author.Tests.{eqb-true}
-use Rattle.octets.specs.Basics.{and, first, number-from, number, field, part}
+use Rattle.octets.specs.Basics.{and, first, number-from, number, part}
+use Rattle.words.specs.Fields.{field}
 use Rattle.octets.proofs.Choices.{apart}
 use Rattle.octets.proofs.Tests.{test}
 use Rattle.packets.specs.Packet.{look, encapsulation, header-length, counted, sized}

@@ -10,7 +10,7 @@ use lib.Dec.{leb, eqb}
 use borrow.Author.Tests.{leb-false, eqb-true, eqb-false}
 use Rattle.octets.specs.Basics.{first}
 use Rattle.octets.proofs.Choices.{refusal-kept}
-use Rattle.octets.proofs.Fields.{field-lt}
+use Rattle.words.proofs.Fields.{field-lt}
 use Rattle.octets.proofs.Tests.{test}
 use Rattle.frames.specs.Link.{zone-at, zone-head}
 use Rattle.frames.specs.Frame.{idle-zone, no-start, in-range, packet-shape, frame-length, frame-rows, zone-of, count, replay, pointer, unused, heading-rows, heading, heading-of}

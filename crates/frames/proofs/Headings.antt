@@ -10,9 +10,10 @@ use native.Mathlib.Omega.{arith}
 use lib.ListN.{length}
 use lib.Dec.{ltb, eqb}
 use borrow.Author.Tests.{lt-ltb, le-ltb, eq-eqb, ne-eqb, eqb-true}
-use Rattle.octets.specs.Basics.{field, placed, number-at, first}
+use Rattle.octets.specs.Basics.{number-at, first}
+use Rattle.words.specs.Fields.{field, placed}
 use Rattle.octets.proofs.Choices.{split}
-use Rattle.octets.proofs.Fields.{above-past, field-rest, field-lt, foot-lt, foot-only}
+use Rattle.words.proofs.Fields.{above-past, field-rest, field-lt, foot-lt, foot-only}
 use Rattle.octets.proofs.Numbers.{number-within}
 use Rattle.frames.specs.Link.{primary, zone-head}
 use Rattle.frames.specs.Shape.{shape-length, both-rows, shape-rows, heading-by, shape-heading}

@@ -1,7 +1,8 @@
 -- The header parts of sample passes 5 and 13, by computing.
 -- Assumes nothing.
 use mathlib.Core.Path.{refl}
-use Rattle.octets.specs.Basics.{number, number-from, field, first}
+use Rattle.octets.specs.Basics.{number, number-from, first}
+use Rattle.words.specs.Fields.{field}
 use Rattle.frames.specs.Link.{primary, zone-head, header-rows}
 use Rattle.frames.specs.Frame.{frame-length, frame-rows, unused}
 use Rattle.frames.specs.BitFrame.{bit-frame-length, bit-frame-rows, bit-unused}

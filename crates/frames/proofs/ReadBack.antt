@@ -10,9 +10,10 @@ use lib.Dec.{lit<}
 use lib.ListN.{length, take, drop, length-append, length-drop, take-append-drop}
 use borrow.Author.Tests.{eq-eqb}
 use lib.Seq.{take-at, drop-at, take-add, take-all}
-use Rattle.octets.specs.Basics.{AllOctets, field, placed, number, octets, read, write, first}
-use Rattle.octets.specs.declared.Place.{Place}
-use Rattle.octets.proofs.Fields.{placed-read, placed-below, placed-lt, placed-within, field-lt, agree-on, foot-read, foot-above, foot-lt, foot-only}
+use Rattle.octets.specs.Basics.{AllOctets, number, octets, first}
+use Rattle.words.specs.Fields.{field, placed, read, write}
+use Rattle.words.specs.declared.Place.{Place}
+use Rattle.words.proofs.Fields.{placed-read, placed-below, placed-lt, placed-within, field-lt, agree-on, foot-read, foot-above, foot-lt, foot-only}
 use Rattle.octets.proofs.Numbers.{number-octets, octets-again, run-lt}
 use Rattle.octets.proofs.Written.{length-octets}
 use Rattle.frames.specs.Link.{head-word, headers, zone-at, primary, zone-head, version-place, spacecraft-place, channel-place, count-place, replay-place, spare-place, count-width}

@@ -6,7 +6,8 @@ use mathlib.Core.Bool.{Bool, true, false, not}
 use Prim.Native.Nat.{ℕ}
 use lib.ListN.{length}
 use borrow.Author.Tests.{eq-eqb, eqb-true, not-false}
-use Rattle.octets.specs.Basics.{pick, read, Row, row, first}
+use Rattle.octets.specs.Basics.{pick, Row, row, first}
+use Rattle.words.specs.Fields.{read}
 use Rattle.octets.proofs.Choices.{and-true, none-holds}
 use Rattle.frames.specs.Link.{primary, zone-head, header-rows, version-place, spacecraft-place, channel-place, spare-place}
 use Rattle.frames.specs.Shape.{shape-length, spare-above, pointer-at, shape-unused, shape-rows}

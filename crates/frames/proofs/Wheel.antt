@@ -6,8 +6,8 @@ use Prim.Native.Nat.{ℕ, _+_, _-_, _*_, _/_, _%_, _^_, _≤_, _<_}
 use native.Mathlib.Nat.{add-comm, mod-add-mod, mod-lt, mod-eq-of-lt, zero-mod, div-add-mod', add-mul-mod-self-right, add-mul}
 use native.Mathlib.Omega.{arith}
 use lib.Pow.{pow-pos, mod-mod-pow}
-use Rattle.octets.specs.Basics.{read}
-use Rattle.octets.proofs.Fields.{field-lt}
+use Rattle.words.specs.Fields.{read}
+use Rattle.words.proofs.Fields.{field-lt}
 use Rattle.frames.specs.Link.{count-place, count-width, next-count, missing}
 use Rattle.frames.specs.declared.Link.{Link}
 

@@ -3,8 +3,9 @@ use Prim.Native.Nat.{ℕ, _-_, _*_}
 use mathlib.Core.List.{List, _∷_}
 use mathlib.Core.Bool.{Bool, not}
 use lib.Dec.{leb}
-use Rattle.octets.specs.Basics.{and, read, Row, row}
-use Rattle.octets.specs.declared.Place.{Place}
+use Rattle.octets.specs.Basics.{and, Row, row}
+use Rattle.words.specs.Fields.{read}
+use Rattle.words.specs.declared.Place.{Place}
 use Rattle.frames.specs.Link.{link-in-range, primary, zone-head, count-place, replay-place}
 use Rattle.frames.specs.Shape.{shape-length, shape-zone, pointer-at, spare-above, shape-unused, shape-rows, shape-heading, word-of, shape-head, shape-head-rows}
 use Rattle.frames.specs.declared.bits.BitSettings.{BitSettings}

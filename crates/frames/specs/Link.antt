@@ -5,8 +5,9 @@ use mathlib.Core.List.{List, [], _∷_, _++_}
 use mathlib.Core.Bool.{Bool, not}
 use lib.ListN.{length, take, drop}
 use lib.Dec.{leb, ltb, eqb}
-use Rattle.octets.specs.Basics.{and, number, octets, read, write, Row, row}
-use Rattle.octets.specs.declared.Place.{Place}
+use Rattle.octets.specs.Basics.{and, number, octets, Row, row}
+use Rattle.words.specs.Fields.{read, write}
+use Rattle.words.specs.declared.Place.{Place}
 use Rattle.frames.specs.declared.Link.{Link}
 
 -- spacecraft 0 to 255, channel 0 to 62

@@ -5,8 +5,9 @@ use mathlib.Core.List.{List, _∷_}
 use mathlib.Core.Bool.{Bool, not}
 use lib.ListN.{length, take, drop}
 use lib.Dec.{leb, ltb, eqb}
-use Rattle.octets.specs.Basics.{pick, and, read, write, Row, row, first}
-use Rattle.octets.specs.declared.Place.{Place}
+use Rattle.octets.specs.Basics.{pick, and, Row, row, first}
+use Rattle.words.specs.Fields.{read, write}
+use Rattle.words.specs.declared.Place.{Place}
 use Rattle.frames.specs.Link.{zone-at, primary, zone-head, count-place, replay-place, header-rows, written-rows, headers}
 use Rattle.frames.specs.declared.Link.{Link}
 use Rattle.frames.specs.declared.Heading.{Heading}

@@ -4,8 +4,9 @@ use Prim.Native.Nat.{ℕ, _^_, _<_}
 use mathlib.Core.List.{List, _++_}
 use mathlib.Core.Bool.{true}
 use lib.ListN.{take}
-use Rattle.octets.specs.Basics.{AllOctets, read, first}
-use Rattle.octets.specs.declared.Place.{Place}
+use Rattle.octets.specs.Basics.{AllOctets, first}
+use Rattle.words.specs.Fields.{read}
+use Rattle.words.specs.declared.Place.{Place}
 use Rattle.frames.specs.Link.{zone-at, primary, zone-head, version-place, spacecraft-place, channel-place, count-place, replay-place, spare-place, count-width, headers}
 use Rattle.frames.specs.Frame.{in-range, frame-rows, zone-of, count, replay, zone-spare-place, pointer-place, pointer, pointer-word, head}
 use Rattle.frames.specs.BitFrame.{bits-in-range, bit-frame-rows, bit-zone-of, bit-count, bit-replay, bit-spare-place, bit-pointer-place, bit-pointer, bit-pointer-word, bit-head}

@@ -11,8 +11,8 @@ use super::Heading;
 use super::Link;
 use super::WHEEL;
 use super::ZONE_AT;
-use octets::Place;
 use octets::refusals;
+use words::Place;
 
 // What the channels differ in: the octets of the zone; the bits of the pointer, which has the spare bits of the zone's header above it;
 // and the pointers that are not used, from the first beyond the zone to the last.
@@ -79,7 +79,7 @@ fn pointer_at(h: Shape) -> Place
 fn fits(h: Shape, number: u64) -> bool
     ensures { λ r. ⌜ r ≡ ltb number (2 ^ h .width) ⌝ }
 {
-    octets::field(number, pointer_at(h)) == number
+    words::field(number, pointer_at(h)) == number
 }
 
 // Whether a pointer is one that is not used.
@@ -93,16 +93,16 @@ fn is_unused(h: Shape, pointer: u64) -> bool
 fn header_refusal(h: Shape, head: u64, zone: u16) -> u8
     ensures { λ r. ⌜ r ≡ first (both-rows h head zone) ⌝ }
 {
-    if octets::field(head, VERSION) != 1 {
+    if words::field(head, VERSION) != 1 {
         return refusals::VERSION;
     }
-    let channel = (octets::field(head, SPACECRAFT) == h.link.spacecraft as u64)
-        & (octets::field(head, CHANNEL) == h.link.channel as u64);
+    let channel = (words::field(head, SPACECRAFT) == h.link.spacecraft as u64)
+        & (words::field(head, CHANNEL) == h.link.channel as u64);
     if !channel {
         return refusals::CHANNEL;
     }
-    let clear = (octets::field(head, SPARE) == 0) & fits(h, zone as u64);
-    let unused = is_unused(h, octets::field(zone as u64, pointer_at(h)));
+    let clear = (words::field(head, SPARE) == 0) & fits(h, zone as u64);
+    let unused = is_unused(h, words::field(zone as u64, pointer_at(h)));
     if !clear {
         return refusals::SPARE;
     }
@@ -134,9 +134,9 @@ fn heading(h: Shape, head: u64, zone: u16) -> Heading
     }
     Heading {
         refusal: 0,
-        count: octets::field(head, COUNT) as u32,
-        replay: octets::field(head, REPLAY) as u8,
-        pointer: octets::field(zone as u64, pointer_at(h)) as u16,
+        count: words::field(head, COUNT) as u32,
+        replay: words::field(head, REPLAY) as u8,
+        pointer: words::field(zone as u64, pointer_at(h)) as u16,
     }
 }
 
@@ -154,11 +154,11 @@ pub(crate) fn read_head(h: Shape, frame: &[u8]) -> Heading
 fn head_word(l: Link, count: u32, replay: u8) -> u64
     ensures { λ r. ⌜ r ≡ head-word l count replay ⌝ }
 {
-    let flag = octets::placed(0, REPLAY, replay as u64);
-    let counted = octets::placed(flag, COUNT, count as u64);
-    let channel = octets::placed(counted, CHANNEL, l.channel as u64);
-    let craft = octets::placed(channel, SPACECRAFT, l.spacecraft as u64);
-    octets::placed(craft, VERSION, 1)
+    let flag = words::placed(0, REPLAY, replay as u64);
+    let counted = words::placed(flag, COUNT, count as u64);
+    let channel = words::placed(counted, CHANNEL, l.channel as u64);
+    let craft = words::placed(channel, SPACECRAFT, l.spacecraft as u64);
+    words::placed(craft, VERSION, 1)
 }
 
 // Writes both headers of the frame with this count and pointer at the front of buf, with settings in range; nothing, and the row's
@@ -175,6 +175,6 @@ pub(crate) fn write_head(h: Shape, count: u32, pointer: u16, buf: &mut [u8]) -> 
         return refusals::ROOM;
     }
     octets::put(buf, 0, 6, head_word(h.link, count, 0));
-    octets::put(buf, 6, 2, octets::placed(0, pointer_at(h), pointer as u64));
+    octets::put(buf, 6, 2, words::placed(0, pointer_at(h), pointer as u64));
     0
 }

@@ -12,7 +12,8 @@ use lib.ListN.{length, take, drop, replicate, length-append, length-drop, length
 use lib.Seq.{length-take-le, take-add, drop-drop}
 use lib.Dec.{leb, eqb}
 use borrow.Author.Tests.{leb-true, leb-false, le-leb, ltb-true, eqb-true, eqb-false, ne-eqb}
-use Rattle.octets.specs.Basics.{AllOctets, field, first}
+use Rattle.octets.specs.Basics.{AllOctets, first}
+use Rattle.words.specs.Fields.{field}
 use Rattle.octets.proofs.Choices.{and-true}
 use Rattle.octets.proofs.Fronts.{all-take, all-drop, all-append}
 use Rattle.octets.proofs.Tests.{test}

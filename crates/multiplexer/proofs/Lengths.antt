@@ -8,7 +8,8 @@ use native.Mathlib.Omega.{arith}
 use lib.ListN.{length, replicate, length-replicate}
 use lib.Dec.{leb, eqb, lit<}
 use borrow.Author.Tests.{leb-true}
-use Rattle.octets.specs.Basics.{pick, AllOctets, number, octets, field, part}
+use Rattle.octets.specs.Basics.{pick, AllOctets, number, octets, part}
+use Rattle.words.specs.Fields.{field}
 use Rattle.octets.proofs.Choices.{split}
 use Rattle.octets.proofs.Fronts.{all-append, all-zeros, all-octets}
 use Rattle.octets.proofs.Numbers.{number-octets}

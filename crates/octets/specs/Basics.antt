@@ -1,11 +1,10 @@
--- Choices, octets and numbers, fields of a word, tables of refusals, and octets written over others.
+-- Choices, octets and numbers, tables of refusals, and octets written over others.
 use Prim.Native.Nat.{ℕ, zero, suc, _+_, _-_, _*_, _/_, _%_, _^_, _<_}
 use mathlib.Core.List.{List, [], _∷_, _++_}
 use mathlib.Core.Bool.{Bool, true, false}
 use mathlib.Core.Path.{_≡_}
 use lib.ListN.{length, take, drop}
 use lib.Dec.{leb}
-use Rattle.octets.specs.declared.Place.{Place}
 
 abbrev pub pick {ℓ} : {A : Type ℓ} → Bool → A → A → A
 pick true a b = a
@@ -39,25 +38,6 @@ number os = number-from 0 os
 unfoldable pub octets : ℕ → ℕ → List ℕ
 octets zero n = []
 octets (suc k) n = n / 256 ^ k % 256 ∷ octets k n
-
--- the field of `width` bits that has `place` bits below it
-unfoldable pub field : ℕ → ℕ → ℕ → ℕ
-field word place width = word / 2 ^ place % 2 ^ width
-
--- a word moved up by `width` bits, with the low bits of another below it
-unfoldable pub join : ℕ → ℕ → ℕ → ℕ
-join high width low = high * 2 ^ width % 2 ^ 64 + low % 2 ^ width
-
--- the word with a field of it replaced: the bits above the field, the low bits of a value, and the bits below the field
-unfoldable pub placed : ℕ → ℕ → ℕ → ℕ → ℕ
-placed word place width value = join (join (word / 2 ^ (place + width)) width value) place word
-
--- the same by the field's place
-abbrev pub read : Place → ℕ → ℕ
-read at word = field word (at .below) (at .width)
-
-abbrev pub write : Place → ℕ → ℕ → ℕ
-write at value word = placed word (at .below) (at .width) value
 
 -- the octets from `from` up to `to`
 unfoldable pub part : ℕ → ℕ → List ℕ → List ℕ

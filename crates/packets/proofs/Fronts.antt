@@ -7,8 +7,9 @@ use native.Mathlib.Nat.{mod-eq-of-lt}
 use native.Mathlib.Omega.{arith}
 use lib.ListN.{length, take, drop, getD, length-append, List·getD-append}
 use lib.Seq.{length-take-le, getD-take, take-at, drop-at}
-use Rattle.octets.specs.Basics.{field, number, number-from, number-at, octets, placed, over, laid, laid-part}
-use Rattle.octets.proofs.Fields.{placed-lt, placed-within, placed-read, placed-above}
+use Rattle.octets.specs.Basics.{number, number-from, number-at, octets, over, laid, laid-part}
+use Rattle.words.specs.Fields.{field, placed}
+use Rattle.words.proofs.Fields.{placed-lt, placed-within, placed-read, placed-above}
 use Rattle.octets.proofs.Numbers.{number-within, number-octets}
 use Rattle.octets.proofs.Written.{length-octets, laid-within, part-within, length-over, over-over}
 use Rattle.packets.specs.Packet.{whole, look, counted, header-length, packet-version, protocol-of, length-of-length}

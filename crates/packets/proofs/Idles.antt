@@ -8,7 +8,8 @@ use native.Mathlib.Omega.{arith}
 use lib.ListN.{length, getD, replicate, length-append, length-replicate}
 use lib.Dec.{leb, eqb}
 use borrow.Author.Tests.{leb-true, leb-false, le-ltb, ltb-false, eqb-true, eqb-false, ne-eqb}
-use Rattle.octets.specs.Basics.{pick, field, join, octets, placed, over, laid, first}
+use Rattle.octets.specs.Basics.{pick, octets, over, laid, first}
+use Rattle.words.specs.Fields.{field, join, placed}
 use Rattle.octets.proofs.Choices.{split, none-holds, or-false}
 use Rattle.octets.proofs.Written.{laid-within, length-over, over-over}
 use Rattle.packets.specs.Packet.{whole, look, encapsulation, WellFormed, packet-version, protocol-of, is-idle, header-length}

@@ -8,7 +8,8 @@ use native.Mathlib.Omega.{arith}
 use lib.ListN.{length, take, drop, getD}
 use lib.Dec.{ltb, eqb}
 use borrow.Author.Tests.{lt-ltb, le-ltb, ltb-false, eq-eqb, ne-eqb, eqb-true}
-use Rattle.octets.specs.Basics.{field, number, number-from, number-at, part}
+use Rattle.octets.specs.Basics.{number, number-from, number-at, part}
+use Rattle.words.specs.Fields.{field}
 use Rattle.octets.proofs.Choices.{split, eqb-iff, apart, picked}
 use Rattle.octets.proofs.Numbers.{number-within}
 use Rattle.packets.specs.Packet.{more, damaged, whole, sized, counted, space, encapsulation, header-length, look, apid, OfAKind, packet-version, protocol-of, length-of-length}

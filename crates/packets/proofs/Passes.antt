@@ -1,7 +1,8 @@
 -- Sample passes 8 and 9, by computing.
 -- Assumes nothing.
 use mathlib.Core.Path.{refl}
-use Rattle.octets.specs.Basics.{number, number-from, field, octets, part}
+use Rattle.octets.specs.Basics.{number, number-from, octets, part}
+use Rattle.words.specs.Fields.{field}
 use Rattle.packets.specs.Packet.{look, encapsulation, counted, sized, header-length}
 use Rattle.packets.specs.Idle.{idle-packet, idle-header}
 use Rattle.packets.specs.Passes.{Pass8, Pass9}

@@ -2,7 +2,8 @@
 use Prim.Native.Nat.{ℕ, _-_, _/_}
 use mathlib.Core.List.{List, [], _∷_, _++_}
 use lib.ListN.{take}
-use Rattle.octets.specs.Basics.{octets, placed}
+use Rattle.octets.specs.Basics.{octets}
+use Rattle.words.specs.Fields.{placed}
 use Rattle.packets.specs.Packet.{header-length}
 
 -- the first octet: version 111, the protocol and the length-of-length, which is `code` here and below

@@ -6,7 +6,8 @@ use mathlib.Core.List.{List, [], _∷_, _++_}
 use mathlib.Core.Bool.{Bool, false}
 use lib.ListN.{length, take, getD}
 use lib.Dec.{leb, ltb, eqb}
-use Rattle.octets.specs.Basics.{pick, and, or, number, field, part}
+use Rattle.octets.specs.Basics.{pick, and, or, number, part}
+use Rattle.words.specs.Fields.{field}
 
 -- the limits that can be set, each the length of the greatest packet
 unfoldable pub limit-in-range : ℕ → Bool

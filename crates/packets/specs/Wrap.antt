@@ -5,7 +5,8 @@ use mathlib.Core.List.{List, [], _∷_, _++_}
 use mathlib.Core.Bool.{Bool, true, false, not}
 use lib.ListN.{length, getD, drop}
 use lib.Dec.{leb, ltb, eqb}
-use Rattle.octets.specs.Basics.{pick, and, or, field, number-at, part-of, over, Row, row, first}
+use Rattle.octets.specs.Basics.{pick, and, or, number-at, part-of, over, Row, row, first}
+use Rattle.words.specs.Fields.{field}
 use Rattle.packets.specs.Packet.{limit-in-range, WellFormed, well-formed, packet-version, protocol-of, length-of-length, header-length}
 use Rattle.packets.specs.Front.{front}
 use Rattle.packets.specs.declared.wrapping.Wrapped.{Wrapped}

@@ -25,16 +25,16 @@ const MOST_IDLE: usize = 65535;
 fn first_octet(protocol: u8, code: u8) -> u8
     ensures { λ r. ⌜ r ≡ first-octet protocol code ⌝ }
 {
-    let versioned = octets::placed(0, VERSION, ENCAPSULATION_VERSION as u64);
-    let addressed = octets::placed(versioned, PROTOCOL, protocol as u64);
-    octets::placed(addressed, LENGTH_OF_LENGTH, code as u64) as u8
+    let versioned = words::placed(0, VERSION, ENCAPSULATION_VERSION as u64);
+    let addressed = words::placed(versioned, PROTOCOL, protocol as u64);
+    words::placed(addressed, LENGTH_OF_LENGTH, code as u64) as u8
 }
 
 // The second, where the header has one that is not its length.
 fn second_octet(extension: u8) -> u8
     ensures { λ r. ⌜ r ≡ second-octet extension ⌝ }
 {
-    octets::placed(0, EXTENSION, extension as u64) as u8
+    words::placed(0, EXTENSION, extension as u64) as u8
 }
 
 // Writes the header of an encapsulation packet over `out` from `at`.

@@ -2,12 +2,13 @@
 ghost use mathlib.Core.Path.{_≡_};
 ghost use Prim.Native.Nat.{_/_, _≤_};
 ghost use lib.ListN.{length, getD};
-ghost use Rattle.octets.specs.Basics.{and, read, number-at};
+ghost use Rattle.octets.specs.Basics.{and, number-at};
+ghost use Rattle.words.specs.Fields.{read};
 ghost use Rattle.packets.specs.Packet.{whole, limit-in-range, apid, OfAKind, packet-version, protocol-of, length-of-length, header-length, sized, encapsulation, look, is-idle, well-formed};
 ghost use Rattle.packets.specs.Header.{seen, told, reading, answer};
-use octets::Place;
 use octets::limits;
 use octets::refusals;
+use words::Place;
 
 mod front;
 mod wrapping;
@@ -157,7 +158,7 @@ fn encapsulation(limit: usize, protocol: u8, code: u8, start: &[u8]) -> Seen
 fn octet_field(start: &[u8], index: usize, at: Place) -> u8
     ensures { λ r. ⌜ r ≡ read at (getD (now (start .entry)) index 0) ⌝ }
 {
-    octets::field(octets::octet(start, index) as u64, at) as u8
+    words::field(octets::octet(start, index) as u64, at) as u8
 }
 
 // The fields of the first octet.
@@ -184,7 +185,7 @@ fn apid(start: &[u8]) -> u16
     requires { ⌜ 2 ≤ length (now start) ⌝ }
     ensures { λ r. ⌜ r ≡ apid (now (start .entry)) ⌝ }
 {
-    octets::field(octets::number2(start, 0) as u64, APID) as u16
+    words::field(octets::number2(start, 0) as u64, APID) as u16
 }
 
 // What the first octets of a packet say of its length, as many as there are. No limit is refused.
@@ -214,7 +215,7 @@ pub fn is_idle(start: &[u8]) -> bool
     ensures { λ r. ⌜ r ≡ is-idle (now (start .entry)) ⌝ }
 {
     if version(start) == SPACE_VERSION {
-        return octets::field(octets::number2(start, 0) as u64, APID) == IDLE_APID;
+        return words::field(octets::number2(start, 0) as u64, APID) == IDLE_APID;
     }
     protocol(start) == IDLE_PROTOCOL
 }

@@ -10,10 +10,11 @@ use lib.Dec.{eqb}
 use lib.ListN.{length, take, take-append-drop}
 use lib.Seq.{length-take-le}
 use borrow.Author.Tests.{leb-true, le-leb, ltb-false, le-ltb, eqb-true, eq-eqb, not-false}
-use Rattle.octets.specs.Basics.{AllOctets, number, number-at, octets, over, read, write, first}
-use Rattle.octets.specs.declared.Place.{Place}
+use Rattle.octets.specs.Basics.{AllOctets, number, number-at, octets, over, first}
+use Rattle.words.specs.Fields.{read, write}
+use Rattle.words.specs.declared.Place.{Place}
 use Rattle.octets.proofs.Choices.{and-true, or-false, none-holds}
-use Rattle.octets.proofs.Fields.{field-within, placed-within, placed-read, placed-above, agree-on}
+use Rattle.words.proofs.Fields.{field-within, placed-within, placed-read, placed-above, agree-on}
 use Rattle.octets.proofs.Fronts.{all-take}
 use Rattle.octets.proofs.Numbers.{run-lt, number-within, number-octets, octets-number}
 use Rattle.octets.proofs.Written.{length-octets, length-over, over-take}

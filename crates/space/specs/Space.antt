@@ -4,8 +4,9 @@ use mathlib.Core.List.{List, [], _∷_}
 use mathlib.Core.Bool.{Bool, true, false, not}
 use lib.ListN.{length}
 use lib.Dec.{leb, ltb, eqb}
-use Rattle.octets.specs.Basics.{pick, and, or, number-at, octets, over, read, write, Row, row, first}
-use Rattle.octets.specs.declared.Place.{Place}
+use Rattle.octets.specs.Basics.{pick, and, or, number-at, octets, over, Row, row, first}
+use Rattle.words.specs.Fields.{read, write}
+use Rattle.words.specs.declared.Place.{Place}
 use Rattle.space.specs.declared.SpaceHeader.{SpaceHeader}
 use Rattle.space.specs.declared.SpaceRead.{SpaceRead}
 

@@ -1,10 +1,10 @@
 // Primary headers of space packets, read and written field by field. The version is 000: any other begins no space packet.
 ghost use mathlib.Core.Path.{_≡_};
 ghost use Prim.Native.Nat.{_≤_};
-ghost use Rattle.octets.specs.Basics.{read};
+ghost use Rattle.words.specs.Fields.{read};
 ghost use Rattle.space.specs.Space.{space-word, space-in-range, space-reading, space-reads, space-writes, space-writing};
-use octets::Place;
 use octets::refusals;
+use words::Place;
 
 // The seven fields.
 pub struct SpaceHeader {
@@ -74,7 +74,7 @@ fn narrow(word: u64, at: Place) -> u8
     requires { ⌜ at .width ≤ 8 ⌝ }
     ensures { λ r. ⌜ r ≡ read at word ⌝ }
 {
-    octets::field(word, at) as u8
+    words::field(word, at) as u8
 }
 
 // A field of sixteen bits at most.
@@ -82,7 +82,7 @@ fn wide(word: u64, at: Place) -> u16
     requires { ⌜ at .width ≤ 16 ⌝ }
     ensures { λ r. ⌜ r ≡ read at word ⌝ }
 {
-    octets::field(word, at) as u16
+    words::field(word, at) as u16
 }
 
 // Reads the header in the first six octets; fewer, or another version, are refused.
@@ -122,13 +122,13 @@ fn in_range(h: SpaceHeader) -> bool
 fn word_of(h: SpaceHeader) -> u64
     ensures { λ r. ⌜ r ≡ space-word h ⌝ }
 {
-    let word = octets::placed(0, VERSION, h.version as u64);
-    let word = octets::placed(word, TYPE, h.packet_type as u64);
-    let word = octets::placed(word, SECONDARY, h.secondary as u64);
-    let word = octets::placed(word, APID, h.apid as u64);
-    let word = octets::placed(word, FLAGS, h.flags as u64);
-    let word = octets::placed(word, COUNT, h.count as u64);
-    octets::placed(word, LENGTH, h.length as u64)
+    let word = words::placed(0, VERSION, h.version as u64);
+    let word = words::placed(word, TYPE, h.packet_type as u64);
+    let word = words::placed(word, SECONDARY, h.secondary as u64);
+    let word = words::placed(word, APID, h.apid as u64);
+    let word = words::placed(word, FLAGS, h.flags as u64);
+    let word = words::placed(word, COUNT, h.count as u64);
+    words::placed(word, LENGTH, h.length as u64)
 }
 
 // Writes a header over the first six octets, and answers 0; or answers the refusal, and writes nothing.

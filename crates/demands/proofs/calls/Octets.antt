@@ -20,8 +20,6 @@ lays room written = record {
 
 pub of-octets : OfOctets
 of-octets = record {
-  field = λ word at. exactly;
-  placed = λ word at value. exactly;
   within = λ len at n. exactly;
   octet = λ κs s at. exactly;
   number2 = λ κs s at. exactly;

@@ -2,7 +2,8 @@
 use mathlib.Core.Path.{_≡_}
 use mathlib.Core.List.{[], _∷_, map}
 use mathlib.Core.Bool.{true, false}
-use Rattle.octets.specs.Basics.{octets, field, placed, number-at, fits, laid, part-fits, laid-part}
+use Rattle.octets.specs.Basics.{octets, number-at, fits, laid, part-fits, laid-part}
+use Rattle.words.specs.Fields.{field, placed}
 use Rattle.demands.specs.Numbers.Samples.{lent}
 
 pub record Octets : Type 0 where

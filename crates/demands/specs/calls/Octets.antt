@@ -6,10 +6,7 @@ use lib.ListN.{getD, replicate}
 use lib.Dec.{leb}
 use contract.Lifetimes.{Lfts}
 use denote.Ref.{now, at-last}
-use Rattle.octets.specs.Basics.{pick, field, placed, number-at, part-of, octets, fits, laid, part-fits, laid-part}
-use Rattle.octets.specs.declared.Place.{Place}
-use Rattle.octets.proofs.field.Reads as field-fn
-use Rattle.octets.proofs.placed.Reads as placed-fn
+use Rattle.octets.specs.Basics.{pick, number-at, part-of, octets, fits, laid, part-fits, laid-part}
 use Rattle.octets.proofs.within.Reads as within-fn
 use Rattle.octets.proofs.octet.Reads as octet-fn
 use Rattle.octets.proofs.number2.Reads as number2-fn
@@ -28,14 +25,8 @@ use Rattle.demands.specs.Promises.{Slice, Left, Contract, as-read, Is}
 abbrev pub Lays : Contract (Left ℕ) → Bool → List ℕ → Type 0
 Lays c room written = Is c (record { answer = pick room 0 2; lent = written })
 
--- fields of a word, numbers in octets, octets written over others, and the small choices that other crates make
+-- numbers in octets, octets written over others, and the small choices that other crates make
 pub record OfOctets : Type 0 where
-  pub field : (word : ℕ) (at : Place)
-      → Is (as-read (field-fn.Pre tt (word, (at, tt))) (λ r. field-fn.Post tt (word, (at, tt)) r (word, (at, tt))))
-      (field word (at .below) (at .width))
-  pub placed : (word : ℕ) (at : Place) (value : ℕ)
-      → Is (as-read (placed-fn.Pre tt (word, (at, (value, tt)))) (λ r. placed-fn.Post tt (word, (at, (value, tt))) r (word, (at, (value, tt)))))
-      (placed word (at .below) (at .width) value)
   pub within : (len at n : ℕ)
       → Is (as-read (within-fn.Pre tt (len, (at, (n, tt)))) (λ r. within-fn.Post tt (len, (at, (n, tt))) r (len, (at, (n, tt))))) (leb (at + n) len)
   pub octet : (κs : Lfts 1) (s : Slice) (at : ℕ)

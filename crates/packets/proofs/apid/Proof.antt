@@ -3,8 +3,8 @@
 use mathlib.Core.Path.{_∙_, ap}
 use Prim.Native.Nat.{ℕ}
 use native.Mathlib.Omega.{arith}
-use Rattle.octets.specs.Basics.{field}
-use Rattle.octets.proofs.Fields.{field-le}
+use Rattle.words.specs.Fields.{field}
+use Rattle.words.proofs.Fields.{field-le}
 use Rattle.octets.proofs.Numbers.{number-within}
 use borrow.Author.Needs.{needs}
 use Rattle.packets.proofs.apid.Statement.{statement}

@@ -2,8 +2,8 @@
 -- Assumes nothing.
 use mathlib.Core.Path.{ap, _∙_}
 use native.Mathlib.Omega.{arith}
-use Rattle.octets.specs.Basics.{read}
-use Rattle.octets.proofs.Fields.{field-le}
+use Rattle.words.specs.Fields.{read}
+use Rattle.words.proofs.Fields.{field-le}
 use borrow.Author.Needs.{needs}
 use Rattle.packets.proofs.octet_field.Statement.{statement}
 use Rattle.packets.proofs.octet_field.Tie as tie

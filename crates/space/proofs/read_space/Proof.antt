@@ -6,7 +6,8 @@ use mathlib.Core.Bool.{Bool, true, false, not}
 use Prim.Native.Nat.{ℕ}
 use lib.ListN.{length}
 use lib.Dec.{ltb, eqb}
-use Rattle.octets.specs.Basics.{pick, or, number-at, read, first}
+use Rattle.octets.specs.Basics.{pick, or, number-at, first}
+use Rattle.words.specs.Fields.{read}
 use Rattle.space.specs.declared.SpaceRead.{SpaceRead}
 use Rattle.space.specs.Space.{version-at, type-at, secondary-at, apid-at, flags-at, count-at, length-at, space-fields, space-read-rows, space-reading, space-reads}
 use borrow.Author.Needs.{needs}

@@ -2,7 +2,7 @@
 -- Assumes nothing.
 use mathlib.Core.Path.{sym, subst}
 use Prim.Native.Nat.{ℕ, _^_, _<_}
-use Rattle.octets.proofs.Fields.{field-within}
+use Rattle.words.proofs.Fields.{field-within}
 use borrow.Author.Needs.{needs}
 use Rattle.space.proofs.wide.Statement.{statement}
 use Rattle.space.proofs.wide.Tie as tie

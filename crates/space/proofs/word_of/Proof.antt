@@ -2,7 +2,7 @@
 -- Assumes nothing.
 use mathlib.Core.Path.{ap, _∙_}
 use native.Mathlib.Omega.{arith}
-use Rattle.octets.specs.Basics.{write}
+use Rattle.words.specs.Fields.{write}
 use Rattle.space.specs.Space.{type-at, secondary-at, apid-at, flags-at, count-at, length-at, space-word}
 use borrow.Author.Needs.{needs}
 use Rattle.space.proofs.word_of.Statement.{statement}

@@ -5,8 +5,9 @@ use mathlib.Core.Bool.{true}
 use borrow.Author.Needs.{needs}
 use borrow.Author.Tests.{eq-eqb, ne-eqb}
 use lib.Dec.{eqb}
-use Rattle.octets.specs.Basics.{and, read, first}
-use Rattle.octets.specs.declared.Place.{Place}
+use Rattle.octets.specs.Basics.{and, first}
+use Rattle.words.specs.Fields.{read}
+use Rattle.words.specs.declared.Place.{Place}
 use Rattle.frames.specs.Link.{version-place, spacecraft-place, channel-place, spare-place, header-rows}
 use Rattle.frames.specs.Shape.{spare-above, pointer-at, shape-unused}
 use Rattle.frames.proofs.Headings.{spare-fits}

@@ -3,7 +3,7 @@
 use mathlib.Core.Path.{refl}
 use native.Mathlib.Omega.{arith}
 use borrow.Author.Tests.{eq-eqb, ne-eqb}
-use Rattle.octets.proofs.Fields.{field-le, field-lt}
+use Rattle.words.proofs.Fields.{field-le, field-lt}
 use Rattle.frames.specs.Shape.{heading-of}
 use Rattle.frames.proofs.shape.heading.Statement.{statement}
 use Rattle.frames.proofs.shape.heading.Tie as tie

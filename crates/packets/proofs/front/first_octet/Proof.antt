@@ -2,7 +2,7 @@
 -- Assumes nothing.
 use mathlib.Core.Path.{_≡_, sym, ap, subst, _∙_}
 use Prim.Native.Nat.{ℕ, _<_}
-use Rattle.octets.specs.Basics.{placed}
+use Rattle.words.specs.Fields.{placed}
 use Rattle.packets.specs.Front.{first-octet}
 use Rattle.packets.proofs.Fronts.{first-octet-lt}
 use borrow.Author.Needs.{needs}

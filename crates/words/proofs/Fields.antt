@@ -8,7 +8,7 @@ use lib.Bits.{bitAnd, bitOr, and-mask, or-shifted}
 use lib.Arith.{digits-lt}
 use lib.Pow.{pow-pos, pow-mono, pow-lt, pow-add, mod-pow-add, mod-mod-pow, shl-exact, shl-shr, shr-le, shr-lt, shr-shr, high, low}
 use lib.Pow as pow
-use Rattle.octets.specs.Basics.{field, join, placed}
+use Rattle.words.specs.Fields.{field, join, placed}
 
 -- no bits are left above the word
 pub above-past : (bits word place : ℕ) → word < 2 ^ bits → bits ≤ place → word / 2 ^ place ≡ 0

@@ -3,9 +3,9 @@
 use mathlib.Core.Path.{sym, _∙_}
 use borrow.Author.Needs.{needs}
 use lib.Pow.{pow-pos}
-use Rattle.octets.proofs.Fields.{field-rest, field-mask, one-up}
-use Rattle.octets.proofs.field.Statement.{statement}
-use Rattle.octets.proofs.field.Tie as tie
+use Rattle.words.proofs.Fields.{field-rest, field-mask, one-up}
+use Rattle.words.proofs.field.Statement.{statement}
+use Rattle.words.proofs.field.Tie as tie
 
 returns : tie.Need-returns
 returns c = c .before .above .ensures ∙ sym (field-rest 64 _ _ _ (c .before .before .fits .word .fits) (c .if1 .taken))

@@ -2,9 +2,9 @@
 -- Assumes nothing.
 use borrow.Author.Needs.{needs}
 use lib.Pow.{shr-shr}
-use Rattle.octets.specs.Basics.{placed}
-use Rattle.octets.proofs.placed.Statement.{statement}
-use Rattle.octets.proofs.placed.Tie as tie
+use Rattle.words.specs.Fields.{placed}
+use Rattle.words.proofs.placed.Statement.{statement}
+use Rattle.words.proofs.placed.Tie as tie
 
 returns : tie.Need-returns
 unfolding placed

@@ -2,9 +2,9 @@
 -- Assumes nothing.
 use mathlib.Core.Path.{sym}
 use borrow.Author.Needs.{needs}
-use Rattle.octets.proofs.Fields.{above-past}
-use Rattle.octets.proofs.above.Statement.{statement}
-use Rattle.octets.proofs.above.Tie as tie
+use Rattle.words.proofs.Fields.{above-past}
+use Rattle.words.proofs.above.Statement.{statement}
+use Rattle.words.proofs.above.Tie as tie
 
 returns : tie.Need-returns
 returns c = sym (above-past 64 _ _ (c .before .fits .word .fits) (c .if1 .taken))
