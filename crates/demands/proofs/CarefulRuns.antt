@@ -13,9 +13,9 @@ use borrow.Author.Tests.{eqb-true, eq-eqb}
 use Rattle.octets.specs.Basics.{pick, All}
 use Rattle.octets.proofs.Fronts.{all-joined}
 use Rattle.packets.specs.Packet.{WellFormed, end-to-end}
-use Rattle.packets.specs.Idle.{idle-packet}
+use Rattle.wrapping.specs.Idle.{idle-packet}
 use Rattle.packets.proofs.Grown.{look-bounds}
-use Rattle.packets.proofs.Idles.{idle-length, idle-formed}
+use Rattle.wrapping.proofs.Idles.{idle-length, idle-formed}
 use Rattle.frames.specs.Link.{count-width, next-count}
 use Rattle.frames.specs.Frame.{idle-zone, no-start, in-range, frame-length}
 use Rattle.frames.specs.declared.Settings.{Settings}

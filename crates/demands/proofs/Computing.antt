@@ -4,9 +4,10 @@ use Rattle.octets.specs.Basics.{number-from, number, octets, part, over, first,
 use Rattle.words.specs.Fields.{field, join, placed}
 use Rattle.packets.specs.Packet.{limit-in-range, sized, counted, space, header-length, encapsulation, look, states, well-formed, is-idle, key-of, size-of}
 use Rattle.packets.specs.Header.{told, reading, version-of, answer}
-use Rattle.packets.specs.Front.{first-octet, second-octet, front}
-use Rattle.packets.specs.Idle.{idle-header, idle-packet, idle-packet-rows}
-use Rattle.packets.specs.Wrap.{length-of-length-for, wrapped-total, wrapped, wrap-in-range, wrap-rows, wrapping, wraps, extension-of, reserved-of, unwrap-rows, unwrapping, unwraps, unit-part}
+use Rattle.wrapping.specs.Front.{first-octet, second-octet, front}
+use Rattle.wrapping.specs.Idle.{idle-header, idle-packet, idle-packet-rows}
+use Rattle.wrapping.specs.Wrap.{length-of-length-for, wrapped-total, wrapped, wrap-in-range, wrap-rows, wrapping, wraps}
+use Rattle.packets.specs.Unwrap.{extension-of, reserved-of, unwrap-rows, unwrapping, unwraps, unit-part}
 use Rattle.space.specs.Space.{space-fields, space-word, space-in-range, space-read-rows, space-reading, space-reads, space-rows, space-writing}
 use Rattle.frames.specs.Link.{link-in-range, primary, zone-head, header-rows, written-rows, head-word, headers, count-width, next-count, missing}
 use Rattle.frames.specs.Frame.{in-range, frame-length, zone-of, unused, frame-rows, heading-rows, heading-of, heading, head, head-rows}

@@ -5,6 +5,7 @@ use Rattle.demands.proofs.calls.Octets.{of-octets}
 use Rattle.demands.proofs.calls.Words.{of-words}
 use Rattle.demands.proofs.calls.Arrays.{of-arrays}
 use Rattle.demands.proofs.calls.Packets.{of-packets}
+use Rattle.demands.proofs.calls.Wrapping.{of-wrapping}
 use Rattle.demands.proofs.calls.Space.{of-space}
 use Rattle.demands.proofs.calls.Frames.{of-frames}
 use Rattle.demands.proofs.calls.Multiplexer.{of-multiplexer}
@@ -20,6 +21,7 @@ demand-1 = record {
   words = of-words;
   arrays = of-arrays;
   packets = of-packets;
+  wrapping = of-wrapping;
   space = of-space;
   frames = of-frames;
   multiplexer = of-multiplexer;

@@ -1,7 +1,7 @@
 -- Demand 2 holds: its parts are the crates' own laws.
 -- Assumes nothing.
 use Rattle.words.proofs.Fields.{placed-read, placed-below, placed-above}
-use Rattle.packets.proofs.Rounds.{round-trip}
+use Rattle.wrapping.proofs.Rounds.{round-trip}
 use Rattle.space.proofs.Spaces.{space-written-read, space-read-written}
 use Rattle.frames.proofs.Theorems.{headers-read}
 use Rattle.bitstream.proofs.ReadBack.{read-back, has-bits}

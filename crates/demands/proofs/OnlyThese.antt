@@ -11,8 +11,9 @@ use Rattle.octets.specs.Basics.{pick, Row, row, first}
 use Rattle.octets.proofs.Choices.{refusal-kept}
 use Rattle.packets.specs.Packet.{limit-in-range, look}
 use Rattle.packets.specs.Header.{bare, told}
-use Rattle.packets.specs.Idle.{idle-packet-rows}
-use Rattle.packets.specs.Wrap.{wrapped-total, wrap-rows, Wrapping, wrapping, unwrap-rows, Unwrapping, unwrapping}
+use Rattle.wrapping.specs.Idle.{idle-packet-rows}
+use Rattle.wrapping.specs.Wrap.{wrapped-total, wrap-rows, Wrapping, wrapping}
+use Rattle.packets.specs.Unwrap.{unwrap-rows, Unwrapping, unwrapping}
 use Rattle.space.specs.Space.{SpaceReading, space-read-rows, space-reading, space-reads, space-rows, space-writing}
 use Rattle.space.specs.declared.SpaceRead.{SpaceRead}
 use Rattle.frames.specs.Link.{header-rows, written-rows}

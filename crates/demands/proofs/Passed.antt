@@ -6,6 +6,7 @@ use Rattle.words.specs.Fields.{field}
 use Rattle.packets.specs.Packet.{limit-in-range, look, space, encapsulation, counted, sized, header-length, is-idle, key-of, size-of}
 use Rattle.packets.specs.Header.{told, reading}
 use Rattle.packets.proofs.Passes as packets
+use Rattle.wrapping.proofs.Passes as wrapping
 use Rattle.frames.specs.Link.{primary, zone-head, header-rows, count-width, missing}
 use Rattle.frames.specs.Frame.{frame-length, unused, frame-rows, zone-of}
 use Rattle.frames.proofs.Passes as frames
@@ -30,7 +31,7 @@ table = record {
   judged-1-to-7 = refl;
   pass-5-pointers = frames.pass-5;
   pass-8 = packets.pass-8;
-  pass-9-packets = packets.pass-9;
+  pass-9-packets = wrapping.pass-9;
   pass-9-flushes = multiplexer.pass-9;
   pass-13-pointers = frames.pass-13;
   pass-13 = bitstream.pass-13;

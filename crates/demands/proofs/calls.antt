@@ -2,6 +2,7 @@ pub mod Octets
 pub mod Words
 pub mod Arrays
 pub mod Packets
+pub mod Wrapping
 pub mod Space
 pub mod Frames
 pub mod Multiplexer

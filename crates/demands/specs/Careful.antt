@@ -6,7 +6,7 @@ use lib.ListN.{length, take}
 use lib.Dec.{eqb}
 use Rattle.octets.specs.Basics.{pick}
 use Rattle.packets.specs.Packet.{WellFormed}
-use Rattle.packets.specs.Idle.{idle-packet}
+use Rattle.wrapping.specs.Idle.{idle-packet}
 use Rattle.frames.specs.Frame.{frame-length}
 use Rattle.frames.specs.declared.Settings.{Settings}
 use Rattle.multiplexer.specs.Multiplex.{begun}

@@ -6,8 +6,8 @@ use mathlib.Core.Bool.{true}
 use lib.ListN.{length, take}
 use Rattle.octets.specs.Basics.{AllOctets, first}
 use Rattle.words.specs.Fields.{field, placed}
-use Rattle.packets.specs.Wrap.{wrapped-total, wrap-rows}
-use Rattle.packets.specs.Wrap as packets
+use Rattle.wrapping.specs.Wrap.{wrapped-total, wrap-rows}
+use Rattle.wrapping.specs.Wrap as wrapping
 use Rattle.space.specs.Space.{space-read-rows, space-rows, space-reading, space-writing}
 use Rattle.space.specs.declared.SpaceHeader.{SpaceHeader}
 use Rattle.frames.specs.Statements.{HeadersRead}
@@ -37,7 +37,7 @@ pub record Fields : Type 0 where
 pub record Packets : Type 0 where
   pub wrapped : (limit protocol extension : ℕ) (unit output : List ℕ)
       → first (wrap-rows limit protocol extension (length unit) (wrapped-total protocol (length unit)) (length output)) ≡ 0
-      → packets.RoundTrip limit protocol extension unit output
+      → wrapping.RoundTrip limit protocol extension unit output
   pub space : (h : SpaceHeader) (output : List ℕ) → first (space-rows h (length output)) ≡ 0
       → space-reading (space-writing h output .output) ≡ record { accepted = true; refusal = 0; header = h }
   pub space-again : (os : List ℕ) → AllOctets os → first (space-read-rows os) ≡ 0

@@ -5,6 +5,7 @@ use mathlib.Core.List.{List, [], _∷_}
 use mathlib.Core.Bool.{Bool, true, false}
 use Rattle.packets.specs.Header.{Reading, reading}
 use Rattle.packets.specs.Passes as packets
+use Rattle.wrapping.specs.Passes as wrapping
 use Rattle.frames.specs.Passes as frames
 use Rattle.multiplexer.specs.Passes as multiplexer
 use Rattle.extractor.specs.Passes.{sample, first-frame, second-frame, Pass, passes, SamplePasses}
@@ -52,7 +53,7 @@ pub record Table : Type 0 where
       ≡ pass ∷ fault 0 ∷ fault 1 ∷ fault 1 ∷ fault 1 ∷ fault 1 ∷ fault 0 ∷ fault 0 ∷ fault 1 ∷ fault 2 ∷ fault 0 ∷ []
   pub pass-5-pointers : frames.Pass5
   pub pass-8 : packets.Pass8
-  pub pass-9-packets : packets.Pass9
+  pub pass-9-packets : wrapping.Pass9
   pub pass-9-flushes : multiplexer.Pass9
   pub pass-13-pointers : frames.Pass13
   pub pass-13 : bitstream.Pass13

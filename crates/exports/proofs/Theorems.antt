@@ -9,8 +9,8 @@ use lib.ListN.{length, take, drop}
 use lib.Dec.{leb}
 use Rattle.octets.specs.Basics.{pick, part-of, over}
 use Rattle.octets.proofs.Written.{laid-within}
-use Rattle.packets.specs.Wrap.{unwraps, unit-part}
-use Rattle.packets.specs.declared.wrapping.Unwrapped.{Unwrapped}
+use Rattle.packets.specs.Unwrap.{unwraps, unit-part}
+use Rattle.packets.specs.declared.unwrapping.Unwrapped.{Unwrapped}
 use Rattle.multiplexer.specs.declared.Mux.{Mux}
 use Rattle.extractor.specs.Records.{shown}
 use Rattle.extractor.specs.Answers.{packet-or-idle, found-numbers}

@@ -12,8 +12,8 @@ use borrow.Author.Tests.{leb-true, le-ltb}
 use Rattle.octets.specs.Basics.{and, or, first}
 use Rattle.octets.proofs.Choices.{and-true, split}
 use Rattle.packets.specs.Packet.{limit-in-range}
-use Rattle.packets.specs.Wrap.{wrap-in-range, wrap-rows, wrapping, wraps}
-use Rattle.packets.specs.declared.wrapping.Wrapped.{Wrapped}
+use Rattle.wrapping.specs.Wrap.{wrap-in-range, wrap-rows, wrapping, wraps}
+use Rattle.wrapping.specs.declared.Wrapped.{Wrapped}
 use Rattle.arrays.specs.Arrays.{told}
 use Rattle.exports.specs.Left.{left}
 use Rattle.exports.specs.Packet.{wrap-numbers, wrap-leaves}

@@ -6,7 +6,8 @@ use lib.Dec.{leb, ltb, eqb}
 use Rattle.octets.specs.Basics.{pick, or}
 use Rattle.packets.specs.Packet.{limit-in-range, well-formed}
 use Rattle.packets.specs.Header.{Reading, reading}
-use Rattle.packets.specs.Wrap.{Wrapping, wrapping, Unwrapping, unwrapping}
+use Rattle.wrapping.specs.Wrap.{Wrapping, wrapping}
+use Rattle.packets.specs.Unwrap.{Unwrapping, unwrapping}
 use Rattle.arrays.specs.Arrays.{told, bit}
 use Rattle.exports.specs.Left.{Left, left}
 

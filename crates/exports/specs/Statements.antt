@@ -9,8 +9,8 @@ use Rattle.octets.specs.Basics.{pick, and}
 use Rattle.frames.specs.declared.Settings.{Settings}
 use Rattle.packets.specs.Header.{reading}
 use Rattle.packets.specs.Packet.{limit-in-range}
-use Rattle.packets.specs.Wrap.{unwraps, unit-part}
-use Rattle.packets.specs.declared.wrapping.Unwrapped.{Unwrapped}
+use Rattle.packets.specs.Unwrap.{unwraps, unit-part}
+use Rattle.packets.specs.declared.unwrapping.Unwrapped.{Unwrapped}
 use Rattle.multiplexer.specs.Calls.{to-flush, answer}
 use Rattle.multiplexer.specs.declared.Mux.{Mux}
 use Rattle.extractor.specs.Records.{shown}

@@ -6,7 +6,8 @@ ghost use lib.ListN.{length};
 ghost use lib.Dec.{eqb};
 ghost use Rattle.octets.specs.Basics.{pick};
 ghost use Rattle.packets.specs.Header.{answer, version-of};
-ghost use Rattle.packets.specs.Wrap.{wraps, unwraps};
+ghost use Rattle.wrapping.specs.Wrap.{wraps};
+ghost use Rattle.packets.specs.Unwrap.{unwraps};
 ghost use Rattle.exports.specs.Left.{left};
 ghost use Rattle.exports.specs.Packet.{kind-number, header-numbers, header-leaves, formed-leaves, wrap-numbers, wrap-leaves, unwrap-numbers, unwrap-leaves, unit-numbers, unit-leaves};
 use crate::lent::ROOM;
@@ -19,7 +20,7 @@ use octets::within;
 use packets::Header;
 use packets::Kind;
 use packets::Unwrapped;
-use packets::Wrapped;
+use wrapping::Wrapped;
 
 // The entries of each answer.
 const HEADER_ENTRIES: usize = 6;
@@ -144,7 +145,7 @@ pub extern "C" fn itz_wrap(
     }
     let protocol = octet_of(protocol);
     let extension = octet_of(extension);
-    let said = wrapped_said(packets::wrap(limit as usize, protocol, extension, data, packet));
+    let said = wrapped_said(wrapping::wrap(limit as usize, protocol, extension, data, packet));
     tell(answer, &said)
 }
 

@@ -14,8 +14,8 @@ use Rattle.octets.proofs.Choices.{split}
 use Rattle.octets.proofs.Fronts.{all-append, all-zeros, all-octets}
 use Rattle.octets.proofs.Numbers.{number-octets}
 use Rattle.packets.specs.Packet.{counted, space, look, WellFormed}
-use Rattle.packets.specs.Idle.{idle-header, idle-packet}
-use Rattle.packets.proofs.Idles.{idle-length, idle-formed}
+use Rattle.wrapping.specs.Idle.{idle-header, idle-packet}
+use Rattle.wrapping.proofs.Idles.{idle-length, idle-formed}
 use Rattle.packets.proofs.Looks.{counted-whole}
 
 pub record Sample (limit l : ℕ) : Type 0 where

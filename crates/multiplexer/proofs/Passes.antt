@@ -2,7 +2,7 @@
 -- Assumes nothing.
 use mathlib.Core.Path.{refl}
 use Rattle.octets.specs.Basics.{octets, part, over}
-use Rattle.packets.specs.Idle.{idle-header, idle-packet}
+use Rattle.wrapping.specs.Idle.{idle-header, idle-packet}
 use Rattle.frames.specs.Link.{headers, head-word}
 use Rattle.frames.specs.Frame.{frame-length, head, zone-of}
 use Rattle.multiplexer.specs.Multiplex.{filled-frame, start-now, fits-now, put, flush}

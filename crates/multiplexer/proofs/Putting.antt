@@ -11,9 +11,9 @@ use borrow.Author.Tests.{leb-false, ltb-false, eqb-false, eq-eqb, not-false}
 use Rattle.octets.specs.Basics.{pick, and, first}
 use Rattle.octets.proofs.Choices.{none-holds}
 use Rattle.packets.specs.Packet.{WellFormed}
-use Rattle.packets.specs.Idle.{idle-packet}
+use Rattle.wrapping.specs.Idle.{idle-packet}
 use Rattle.packets.proofs.Grown.{look-bounds}
-use Rattle.packets.proofs.Idles.{idle-length}
+use Rattle.wrapping.proofs.Idles.{idle-length}
 use Rattle.packets.proofs.Readings.{test-formed}
 use Rattle.frames.specs.Link.{count-width, next-count}
 use Rattle.frames.specs.Frame.{no-start}

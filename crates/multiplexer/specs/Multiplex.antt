@@ -6,7 +6,7 @@ use lib.ListN.{length, replicate}
 use lib.Dec.{leb, ltb, eqb}
 use Rattle.octets.specs.Basics.{pick, and, or, part, over, Row, row}
 use Rattle.packets.specs.Packet.{well-formed}
-use Rattle.packets.specs.Idle.{idle-packet}
+use Rattle.wrapping.specs.Idle.{idle-packet}
 use Rattle.frames.specs.Link.{zone-at, count-width, next-count}
 use Rattle.frames.specs.Frame.{in-range, frame-length, head, no-start, idle-zone}
 use Rattle.frames.specs.declared.Settings.{Settings}

@@ -4,7 +4,7 @@ ghost use Prim.Native.Nat.{_+_, _-_, _≤_};
 ghost use lib.ListN.{length};
 ghost use lib.Dec.{eqb};
 ghost use Rattle.octets.specs.Basics.{pick, first};
-ghost use Rattle.packets.specs.Idle.{idle-packet};
+ghost use Rattle.wrapping.specs.Idle.{idle-packet};
 ghost use Rattle.multiplexer.specs.Multiplex.{begun, mux-reachable, lent-rows, put-rows, flush-rows, idle-rows, start-now, put, idle-frame};
 ghost use Rattle.multiplexer.specs.Calls.{to-put, to-flush, to-idle, doing, answers, answer};
 ghost use Rattle.multiplexer.specs.Laying.{Fills, Counted, PacketLaid};
@@ -190,7 +190,7 @@ fn lay_idle_packet(s: Settings, m: Mux, frame: &mut [u8]) -> Reply
     ensures { λ r. ⌜ answers r (now (frame .exit)) ≡ doing (put s m (idle-packet (s .fill) (s .zone - m .filled)) (now (frame .entry))) ⌝ }
 {
     let left = s.zone - m.filled;
-    packets::write_idle(frame, ZONE_AT + m.filled, left, s.fill);
+    wrapping::write_idle(frame, ZONE_AT + m.filled, left, s.fill);
     packet_laid(s, m, left, left, frame)
 }
 

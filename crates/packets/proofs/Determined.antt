@@ -1,19 +1,16 @@
 -- The answers in numbers tell the answers apart: two outcomes that meet a promise are equal.
 -- Assumes nothing.
-use mathlib.Core.Path.{_≡_, refl, sym, ap, _∙_}
-use mathlib.Core.List.{List}
-use Prim.Native.Nat.{ℕ}
+use mathlib.Core.Path.{_≡_, refl}
 use lib.Dec.{eqb}
 use Rattle.octets.specs.Basics.{pick}
 use Rattle.octets.proofs.Tests.{told-apart}
 use Rattle.packets.specs.declared.Kind.{Kind}
 use Rattle.packets.specs.declared.Header.{Header}
 use Rattle.packets.specs.declared.Seen.{Seen}
-use Rattle.packets.specs.declared.wrapping.Wrapped.{Wrapped}
-use Rattle.packets.specs.declared.wrapping.Unwrapped.{Unwrapped}
+use Rattle.packets.specs.declared.unwrapping.Unwrapped.{Unwrapped}
 use Rattle.packets.specs.Packet.{Look, more, damaged, whole}
 use Rattle.packets.specs.Header.{Reading, answer, version-of, seen}
-use Rattle.packets.specs.Wrap.{Wrapping, wraps, Unwrapping, unwraps}
+use Rattle.packets.specs.Unwrap.{Unwrapping, unwraps}
 
 header-back : Reading → Header
 header-back r =
@@ -46,26 +43,6 @@ seen-undo (Seen.Whole total) = refl
 
 pub seen-determined : {a b : Seen} {x : Look} → seen a ≡ x → seen b ≡ x → a ≡ b
 seen-determined = told-apart seen seen-back seen-undo
-
-wrapped-back : Wrapping → Wrapped
-wrapped-back w = pick (w .accepted) (Wrapped.Total (w .total)) (Wrapped.Refused (w .refusal))
-
-wrapped-undo : (r : Wrapped) (output : List ℕ) → wrapped-back (wraps r output) ≡ r
-unfolding wrapped-back wraps
-wrapped-undo (Wrapped.Refused n) output = refl
-wrapped-undo (Wrapped.Total n) output = refl
-
-output-undo : (r : Wrapped) (output : List ℕ) → wraps r output .output ≡ output
-unfolding wraps
-output-undo (Wrapped.Refused n) output = refl
-output-undo (Wrapped.Total n) output = refl
-
--- the answer, and the octets lent
-pub wrapped-determined : {a b : Wrapped} {p q : List ℕ} {x : Wrapping} → wraps a p ≡ x → wraps b q ≡ x → (a ≡ b) × (p ≡ q)
-wrapped-determined {a} {b} {p} {q} e f = (
-  sym (wrapped-undo a p) ∙ ap wrapped-back (e ∙ sym f) ∙ wrapped-undo b q,
-  sym (output-undo a p) ∙ ap (λ (w : Wrapping). w .output) (e ∙ sym f) ∙ output-undo b q,
-)
 
 unwrapped-back : Unwrapping → Unwrapped
 unwrapped-back u =

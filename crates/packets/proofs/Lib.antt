@@ -2,10 +2,7 @@ pub mod Sizes
 pub mod Looks
 pub mod Grown
 pub mod Readings
-pub mod Fronts
-pub mod Idles
-pub mod Wraps
-pub mod Rounds
+pub mod Unwraps
 pub mod Determined
 pub mod Begun
 pub mod Passes

@@ -1,16 +1,11 @@
--- Sample passes 8 and 9, by computing.
+-- Sample pass 8, by computing.
 -- Assumes nothing.
 use mathlib.Core.Path.{refl}
-use Rattle.octets.specs.Basics.{number, number-from, octets, part}
+use Rattle.octets.specs.Basics.{number, number-from, part}
 use Rattle.words.specs.Fields.{field}
 use Rattle.packets.specs.Packet.{look, encapsulation, counted, sized, header-length}
-use Rattle.packets.specs.Idle.{idle-packet, idle-header}
-use Rattle.packets.specs.Passes.{Pass8, Pass9}
+use Rattle.packets.specs.Passes.{Pass8}
 
 pub pass-8 : Pass8
 unfolding look encapsulation counted sized header-length number number-from field part
 pass-8 = record { below-its-header = refl; as-long-as-its-header = refl; one-octet-not-idle = refl }
-
-pub pass-9 : Pass9
-unfolding idle-packet idle-header octets
-pass-9 = record { one = refl; two = refl; most-of-two = refl; least-of-four = refl }

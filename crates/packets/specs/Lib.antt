@@ -1,6 +1,4 @@
 pub mod Packet
 pub mod Header
-pub mod Front
-pub mod Idle
-pub mod Wrap
+pub mod Unwrap
 pub mod Passes

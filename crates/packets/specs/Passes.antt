@@ -1,17 +1,9 @@
--- Sample passes 8 and 9: what header octets say at M = 1,024, and the idle packets of 1, 2, 255 and 256 octets.
+-- Sample pass 8: what header octets say at M = 1,024.
 use mathlib.Core.Path.{_≡_}
 use mathlib.Core.List.{[], _∷_}
-use lib.ListN.{replicate}
 use Rattle.packets.specs.Packet.{damaged, look, WellFormed}
-use Rattle.packets.specs.Idle.{idle-packet}
 
 pub record Pass8 : Type 0 where
   pub below-its-header : look 1024 (0xE9 ∷ 0x01 ∷ []) ≡ damaged
   pub as-long-as-its-header : WellFormed 1024 (0xE9 ∷ 0x02 ∷ [])
   pub one-octet-not-idle : look 1024 (0xEC ∷ []) ≡ damaged
-
-pub record Pass9 : Type 0 where
-  pub one : idle-packet 0x55 1 ≡ 0xE0 ∷ []
-  pub two : idle-packet 0x55 2 ≡ 0xE1 ∷ 0x02 ∷ []
-  pub most-of-two : idle-packet 0x55 255 ≡ 0xE1 ∷ 0xFF ∷ replicate 253 0x55
-  pub least-of-four : idle-packet 0x55 256 ≡ 0xE2 ∷ 0x00 ∷ 0x01 ∷ 0x00 ∷ replicate 252 0x55

@@ -1,4 +1,4 @@
-// Packets: the one header reader, and the test for well-formed packets. Its modules write headers, wrap data units and unwrap them.
+// Packets read: the one header reader, the test for well-formed packets, and unwrapping.
 ghost use mathlib.Core.Path.{_≡_};
 ghost use Prim.Native.Nat.{_/_, _≤_};
 ghost use lib.ListN.{length, getD};
@@ -10,22 +10,18 @@ use octets::limits;
 use octets::refusals;
 use words::Place;
 
-mod front;
-mod wrapping;
+mod unwrapping;
 
-pub use front::write_idle;
-pub use wrapping::Unwrapped;
-pub use wrapping::Wrapped;
-pub use wrapping::unit_part;
-pub use wrapping::unwrap;
-pub use wrapping::wrap;
+pub use unwrapping::Unwrapped;
+pub use unwrapping::unit_part;
+pub use unwrapping::unwrap;
 
 // The fields of a packet's first octet, and of a space packet's first two.
-const VERSION: Place = Place { below: 5, width: 3 };
+pub const VERSION: Place = Place { below: 5, width: 3 };
 
-const PROTOCOL: Place = Place { below: 2, width: 3 };
+pub const PROTOCOL: Place = Place { below: 2, width: 3 };
 
-const LENGTH_OF_LENGTH: Place = Place { below: 0, width: 2 };
+pub const LENGTH_OF_LENGTH: Place = Place { below: 0, width: 2 };
 
 const APID: Place = Place {
     below: 0,
@@ -35,7 +31,7 @@ const APID: Place = Place {
 // The versions of the two kinds of packet.
 const SPACE_VERSION: u8 = 0;
 
-const ENCAPSULATION_VERSION: u8 = 7;
+pub const ENCAPSULATION_VERSION: u8 = 7;
 
 // The octets of a space packet's header, and what its length field says less than the packet's length.
 const SPACE_HEADER: usize = 6;
@@ -48,10 +44,10 @@ const IDLE_APID: u64 = 2047;
 const IDLE_PROTOCOL: u8 = 0;
 
 // The protocol that the extension names further: its headers have one.
-const EXTENDED_PROTOCOL: u8 = 6;
+pub const EXTENDED_PROTOCOL: u8 = 6;
 
 // The extension, in the second octet of an encapsulation packet's header.
-const EXTENSION: Place = Place { below: 0, width: 4 };
+pub const EXTENSION: Place = Place { below: 0, width: 4 };
 
 // The kinds of packet.
 pub enum Kind {
@@ -94,7 +90,7 @@ fn in_range(limit: usize) -> bool
 }
 
 // The length of an encapsulation packet's header for its length-of-length field, which is `code` in this crate.
-fn header_length(code: u8) -> usize
+pub fn header_length(code: u8) -> usize
     ensures { λ r. ⌜ r ≡ header-length code ⌝ }
 {
     match code {

@@ -6,7 +6,7 @@ use crate::run::Ends;
 use crate::say;
 use crate::text;
 use packets::Unwrapped;
-use packets::Wrapped;
+use wrapping::Wrapped;
 
 // What wrapping n octets answered: the header and the last octet of what it wrote.
 fn wrapped(answer: Wrapped, n: usize, out: &[u8]) {
@@ -30,7 +30,7 @@ pub(crate) fn octet(n: usize) -> u8 {
 fn wrap(limit: usize, protocol: usize, extension: usize, n: usize) {
     let unit = text::longest(0xDD);
     let mut out = text::longest(0);
-    let answer = packets::wrap(
+    let answer = wrapping::wrap(
         limit,
         octet(protocol),
         octet(extension),
@@ -45,7 +45,7 @@ fn wrap(limit: usize, protocol: usize, extension: usize, n: usize) {
 fn wrap_nothing(limit: usize) {
     let unit = [0u8; 1];
     let mut out = [0u8; 1];
-    let answer = packets::wrap(limit, 2, 0, octets::part(&unit, 0, 0), &mut out);
+    let answer = wrapping::wrap(limit, 2, 0, octets::part(&unit, 0, 0), &mut out);
     say::phrase(say::ANSWER);
     wrapped(answer, 0, &out);
 }

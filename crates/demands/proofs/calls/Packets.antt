@@ -3,20 +3,17 @@
 use Prim.Native.Nat.{ℕ}
 use mathlib.Core.Path.{_≡_, refl}
 use mathlib.Core.List.{List, [], _∷_}
-use mathlib.Core.Bool.{true, false, not}
-use lib.ListN.{length}
+use mathlib.Core.Bool.{false, not}
 use denote.Ref.{now}
-use Rattle.octets.specs.Basics.{over, row, first}
+use Rattle.octets.specs.Basics.{row, first}
 use Rattle.octets.proofs.Tests.{test}
 use Rattle.packets.specs.Packet.{Look, more, damaged, whole, look, limit-in-range}
 use Rattle.packets.specs.Header.{bare}
 use Rattle.packets.specs.Header as header
-use Rattle.packets.specs.Wrap.{wrapped, wrapped-total, wrapping, wraps, unwrap-rows, unwrapping, unwraps, unit-part}
-use Rattle.packets.specs.declared.wrapping.Wrapped.{Wrapped}
-use Rattle.packets.proofs.Determined.{header-determined, seen-determined, wrapped-determined, unwrapped-determined}
-use Rattle.demands.specs.Promises.{Left}
+use Rattle.packets.specs.Unwrap.{unwrap-rows, unwrapping, unwraps, unit-part}
+use Rattle.packets.proofs.Determined.{header-determined, seen-determined, unwrapped-determined}
 use Rattle.demands.specs.calls.Packets.{OfPackets}
-use Rattle.demands.proofs.Promised.{by-rows, promised, left-same, exactly, writes}
+use Rattle.demands.proofs.Promised.{by-rows, promised, exactly}
 
 -- a limit out of range is the reader's only refusal
 pub reading-by-row : (limit : ℕ) (os : List ℕ)
@@ -31,27 +28,13 @@ told-unrefused os damaged = refl
 told-unrefused os (whole l) = refl
 
 pub of-packets : OfPackets
-unfolding wrapping unwrapping unit-part
+unfolding unwrapping unit-part
 of-packets = record {
-  wrap = λ κs limit protocol extension unit-lent out-lent.
-      let unit : List ℕ = now unit-lent in
-      let out : List ℕ = now out-lent in
-      promised (λ (o : Left Wrapped). wraps (o .answer) (o .lent)) (λ a. a .refusal) _
-      (record { accepted = true; refusal = 0; total = wrapped-total protocol (length unit); output = over out 0 (wrapped protocol extension unit) })
-      (λ n. record { accepted = false; refusal = n; total = 0; output = out }) refl refl (λ n. refl)
-      (record {
-        free = tt;
-        gives = λ o m. m;
-        one = λ o o′ p q.
-            let same = wrapped-determined {a = o .answer} {b = o′ .answer} {p = o .lent} {q = o′ .lent} p q in
-            left-same o o′ (same .0) (same .1);
-      });
   unwrap = λ κs limit p.
       promised unwraps (λ a. a .refusal) (unwrap-rows limit (now p)) _
       (λ n. record { accepted = false; refusal = n; protocol = 0; extension = 0; start = 0; size = 0 }) refl refl (λ n. refl)
       (record { free = tt; gives = λ o m. m; one = λ o o′ e d. unwrapped-determined e d });
   unit-part = λ κs p u part. exactly;
-  write-idle = λ κs out at r fill. writes _ _ _;
   no-unit = λ p n. refl;
   read-header = λ κs limit os-lent.
       let os : List ℕ = now os-lent in
@@ -60,5 +43,6 @@ of-packets = record {
       (record { free = tt; gives = λ o m. m; one = λ o o′ p q. header-determined p q });
   read-length = λ κs limit os. record { free = tt; gives = λ o m. m; one = λ o o′ p q. seen-determined p q };
   is-idle = λ κs os. exactly;
+  header-length = λ code. exactly;
   well-formed = λ κs limit p. exactly;
 }

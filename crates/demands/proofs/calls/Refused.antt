@@ -8,7 +8,7 @@ use lib.Dec.{ltb, eqb}
 use borrow.Author.Tests.{ne-eqb}
 use Rattle.octets.specs.Basics.{first}
 use Rattle.octets.proofs.Tests.{test}
-use Rattle.packets.specs.Wrap.{wrapped-total, wrap-rows, wrapping}
+use Rattle.wrapping.specs.Wrap.{wrapped-total, wrap-rows, wrapping}
 use Rattle.space.specs.Space.{space-rows, space-writing}
 use Rattle.space.specs.declared.SpaceHeader.{SpaceHeader}
 use Rattle.frames.specs.declared.Settings.{Settings}

@@ -4,11 +4,12 @@ use mathlib.Core.Path.{_≡_}
 use mathlib.Core.List.{List, [], _∷_, map}
 use mathlib.Core.Bool.{true, false}
 use Rattle.packets.specs.Header.{answer}
-use Rattle.packets.specs.Wrap.{wraps, unwraps}
+use Rattle.wrapping.specs.Wrap.{wraps}
+use Rattle.packets.specs.Unwrap.{unwraps}
 use Rattle.packets.specs.declared.Kind.the-variants.{Space, Encapsulation}
 use Rattle.packets.specs.declared.Header.{Header}
-use Rattle.packets.specs.declared.wrapping.Wrapped.{Wrapped}
-use Rattle.packets.specs.declared.wrapping.Unwrapped.{Unwrapped}
+use Rattle.wrapping.specs.declared.Wrapped.{Wrapped}
+use Rattle.packets.specs.declared.unwrapping.Unwrapped.{Unwrapped}
 use Rattle.space.specs.Space.{space-reads}
 use Rattle.space.specs.declared.SpaceRead.{SpaceRead}
 use Rattle.multiplexer.specs.Calls.{answers}

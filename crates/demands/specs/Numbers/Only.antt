@@ -3,8 +3,9 @@ use Prim.Native.Nat.{ℕ}
 use mathlib.Core.List.{List, [], _∷_}
 use Rattle.octets.specs.Basics.{first}
 use Rattle.packets.specs.Header.{reading}
-use Rattle.packets.specs.Idle.{idle-packet-rows}
-use Rattle.packets.specs.Wrap.{wrapping, unwrapping}
+use Rattle.wrapping.specs.Idle.{idle-packet-rows}
+use Rattle.wrapping.specs.Wrap.{wrapping}
+use Rattle.packets.specs.Unwrap.{unwrapping}
 use Rattle.space.specs.Space.{space-reading, space-writing}
 use Rattle.space.specs.declared.SpaceHeader.{SpaceHeader}
 use Rattle.frames.specs.Frame.{heading, head-rows}

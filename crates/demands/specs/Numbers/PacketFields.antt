@@ -7,7 +7,7 @@ use lib.ListN.{replicate}
 use Rattle.octets.specs.Basics.{first}
 use Rattle.packets.specs.Packet.{well-formed}
 use Rattle.packets.specs.Header.{Reading, reading}
-use Rattle.packets.specs.Idle.{idle-packet-rows}
+use Rattle.wrapping.specs.Idle.{idle-packet-rows}
 
 -- a whole header: version, APID or protocol, whether it is idle, its length and the packet's
 abbrev pub whole : ℕ → ℕ → Bool → ℕ → ℕ → Reading

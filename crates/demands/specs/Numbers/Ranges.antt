@@ -7,7 +7,8 @@ use lib.ListN.{replicate}
 use Rattle.octets.specs.Basics.{and, first}
 use Rattle.packets.specs.Packet.{limit-in-range, well-formed}
 use Rattle.packets.specs.Header.{reading}
-use Rattle.packets.specs.Wrap.{wrapping, unwrapping}
+use Rattle.wrapping.specs.Wrap.{wrapping}
+use Rattle.packets.specs.Unwrap.{unwrapping}
 use Rattle.frames.specs.Frame.{in-range, heading, head-rows}
 use Rattle.frames.specs.BitFrame.{bits-in-range, bit-heading, bit-head-rows}
 use Rattle.frames.specs.declared.Settings.{Settings}

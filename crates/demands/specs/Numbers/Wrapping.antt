@@ -4,8 +4,9 @@ use mathlib.Core.Path.{_≡_}
 use mathlib.Core.List.{List, [], _∷_, map}
 use mathlib.Core.Bool.{true, false}
 use lib.ListN.{replicate, take}
-use Rattle.packets.specs.Wrap.{wrapping, Unwrapping, unwrapping, unit-part}
-use Rattle.packets.specs.declared.wrapping.Unwrapped.{Unwrapped}
+use Rattle.wrapping.specs.Wrap.{wrapping}
+use Rattle.packets.specs.Unwrap.{Unwrapping, unwrapping, unit-part}
+use Rattle.packets.specs.declared.unwrapping.Unwrapped.{Unwrapped}
 use Rattle.demands.specs.Numbers.Samples.{lent, seven}
 
 pub record Refusals : Type 0 where

@@ -6,32 +6,24 @@ use mathlib.Core.Bool.{false, not}
 use lib.ListN.{length}
 use contract.Lifetimes.{Lfts}
 use denote.Ref.{now, at-last}
-use Rattle.octets.specs.Basics.{and, over, row}
-use Rattle.packets.specs.Packet.{limit-in-range, look, is-idle, well-formed}
+use Rattle.octets.specs.Basics.{and, row}
+use Rattle.packets.specs.Packet.{limit-in-range, header-length, look, is-idle, well-formed}
 use Rattle.packets.specs.Header.{bare, reading, seen}
 use Rattle.packets.specs.Header as header
-use Rattle.packets.specs.Idle.{idle-packet, idle-packet-rows}
-use Rattle.packets.specs.Wrap.{wrapped-total, wrap-rows, wrapping, wraps, unwrap-rows, unwrapping, unwraps, unit-part}
+use Rattle.packets.specs.Unwrap.{unwrap-rows, unwrapping, unwraps, unit-part}
 use Rattle.packets.specs.declared.Header.{Header}
 use Rattle.packets.specs.declared.Seen.{Seen}
-use Rattle.packets.specs.declared.wrapping.Wrapped.{Wrapped}
-use Rattle.packets.specs.declared.wrapping.Unwrapped.{Unwrapped}
-use Rattle.packets.proofs.wrap.Reads as wrap-fn
+use Rattle.packets.specs.declared.unwrapping.Unwrapped.{Unwrapped}
 use Rattle.packets.proofs.unwrap.Reads as unwrap-fn
 use Rattle.packets.proofs.unit_part.Reads as unit-part-fn
-use Rattle.packets.proofs.write_idle.Reads as write-idle-fn
 use Rattle.packets.proofs.read_header.Reads as read-header-fn
 use Rattle.packets.proofs.read_length.Reads as read-length-fn
 use Rattle.packets.proofs.is_idle.Reads as is-idle-fn
+use Rattle.packets.proofs.header_length.Reads as header-length-fn
 use Rattle.packets.proofs.well_formed.Reads as well-formed-fn
-use Rattle.demands.specs.Promises.{Slice, Left, Contract, as-read, Gives, Is, Promised, Writes}
+use Rattle.demands.specs.Promises.{Slice, as-read, Gives, Is, Promised}
 
-abbrev pub wrap-contract : (κs : Lfts 2) (limit protocol extension : ℕ) (unit out : Slice) → Contract (Left Wrapped)
-wrap-contract κs limit protocol extension unit out =
-    as-read (wrap-fn.Pre κs (limit, (protocol, (extension, (unit, (out, tt))))))
-    (λ o. wrap-fn.Post κs (limit, (protocol, (extension, (unit, (out, tt))))) (o .answer) (limit, (protocol, (extension, (unit, (at-last out (o .lent), tt))))))
-
--- the header reader, the length and the idle mark alone, well-formed, wrapping, the idle packet, and unwrapping with the part that is handed back, empty where it is refused
+-- the header reader, the length and the idle mark alone, the length of a header, well-formed, and unwrapping with the part that is handed back, empty where it is refused
 pub record OfPackets : Type 0 where
   pub read-header : (κs : Lfts 1) (limit : ℕ) (os : Slice)
       → Promised (as-read (read-header-fn.Pre κs (limit, (os, tt))) (λ (r : Header). read-header-fn.Post κs (limit, (os, tt)) r (limit, (os, tt))))
@@ -41,21 +33,15 @@ pub record OfPackets : Type 0 where
       seen (look limit (now os))
   pub is-idle : (κs : Lfts 1) (os : Slice)
       → Is (as-read (is-idle-fn.Pre κs (os, tt)) (λ r. is-idle-fn.Post κs (os, tt) r (os, tt))) (is-idle (now os))
+  pub header-length : (code : ℕ)
+      → Is (as-read (header-length-fn.Pre tt (code, tt)) (λ r. header-length-fn.Post tt (code, tt) r (code, tt))) (header-length code)
   pub well-formed : (κs : Lfts 1) (limit : ℕ) (p : Slice)
       → Is (as-read (well-formed-fn.Pre κs (limit, (p, tt))) (λ r. well-formed-fn.Post κs (limit, (p, tt)) r (limit, (p, tt))))
       (and (limit-in-range limit) (well-formed limit (now p)))
-  pub wrap : (κs : Lfts 2) (limit protocol extension : ℕ) (unit out : Slice)
-      → Promised (wrap-contract κs limit protocol extension unit out) (wrapping limit protocol extension (now unit) (now out))
-      (wrap-rows limit protocol extension (length (now unit)) (wrapped-total protocol (length (now unit))) (length (now out)))
-      (λ o. wraps (o .answer) (o .lent)) (λ a. a .refusal) (λ n. record { accepted = false; refusal = n; total = 0; output = now out })
   pub unwrap : (κs : Lfts 1) (limit : ℕ) (p : Slice)
       → Promised (as-read (unwrap-fn.Pre κs (limit, (p, tt))) (λ (r : Unwrapped). unwrap-fn.Post κs (limit, (p, tt)) r (limit, (p, tt))))
       (unwrapping limit (now p)) (unwrap-rows limit (now p)) unwraps (λ a. a .refusal)
       (λ n. record { accepted = false; refusal = n; protocol = 0; extension = 0; start = 0; size = 0 })
-  pub write-idle : (κs : Lfts 1) (out : Slice) (at r fill : ℕ)
-      → Writes (as-read (write-idle-fn.Pre κs (out, (at, (r, (fill, tt)))))
-      (λ o. write-idle-fn.Post κs (out, (at, (r, (fill, tt)))) (o .answer) (at-last out (o .lent), (at, (r, (fill, tt))))))
-      (idle-packet-rows r (length (now out) - at)) (over (now out) at (idle-packet fill r)) (now out)
   pub no-unit : (p : List ℕ) (n : ℕ) → unit-part p (Unwrapped.Refused n) ≡ []
   -- a part that is handed back lies somewhere: an outcome is its octets
   pub unit-part : (κs : Lfts 1) (p : Slice) (u : Unwrapped) (part : Slice)

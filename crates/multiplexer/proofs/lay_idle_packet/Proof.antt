@@ -7,8 +7,8 @@ use native.Mathlib.Omega.{arith}
 use lib.ListN.{length}
 use borrow.Author.Tests.{eq-eqb}
 use Rattle.frames.specs.Frame.{frame-length}
-use Rattle.packets.specs.Idle.{idle-packet}
-use Rattle.packets.proofs.Idles.{idle-length, idle-admits}
+use Rattle.wrapping.specs.Idle.{idle-packet}
+use Rattle.wrapping.proofs.Idles.{idle-length, idle-admits}
 use Rattle.multiplexer.specs.Multiplex.{fits-now}
 use Rattle.multiplexer.proofs.Records.{start-fits, start-used}
 use Rattle.multiplexer.proofs.Rows.{Accepted, flush-passed}

@@ -1,7 +1,7 @@
 -- `exports::packet::unwrapped_said` meets its contract, answer by answer.
 -- Assumes nothing.
 use mathlib.Core.Path.{refl}
-use Rattle.packets.specs.Wrap.{unwraps}
+use Rattle.packets.specs.Unwrap.{unwraps}
 use Rattle.exports.specs.Packet.{unwrap-numbers}
 use borrow.Author.Needs.{needs}
 use Rattle.exports.proofs.packet.unwrapped_said.Statement.{statement}

@@ -1,7 +1,7 @@
 -- `exports::packet::wrapped_said` meets its contract, answer by answer.
 -- Assumes nothing.
 use mathlib.Core.Path.{refl}
-use Rattle.packets.specs.Wrap.{wraps}
+use Rattle.wrapping.specs.Wrap.{wraps}
 use Rattle.exports.specs.Packet.{wrap-numbers}
 use borrow.Author.Needs.{needs}
 use Rattle.exports.proofs.packet.wrapped_said.Statement.{statement}

@@ -1,0 +1,4 @@
+pub mod Front
+pub mod Idle
+pub mod Wrap
+pub mod Passes
