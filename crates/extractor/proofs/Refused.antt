@@ -25,14 +25,18 @@ and-yes true = refl
 and-yes false = refl
 
 -- the same test of every record, by its numbers
-pub reached-by : (s : Settings) (store : List ℕ) (x : Extractor)
-    → reachable s store x ≡ reached s store (last-in x) (held-in x) (at-in x)
+by-numbers : (s : Settings) (store : List ℕ) (x : Extractor) → reachable s store x ≡ reached s store (last-in x) (held-in x) (at-in x)
 unfolding reachable reached holds-well count-width
-reached-by s store Fresh = rw (le-leb 0 (s .zone) (omega arith)) refl
-reached-by s store (Astray last) = rw (le-leb 0 (s .zone) (omega arith)) (and-yes _)
-reached-by s store (InStep last h) = ap (and (ltb last (2 ^ 24))) (test (eqb h 0) (λ t. rw (t, le-leb 0 (s .zone) (omega arith)) refl) (λ t. rw t refl))
-reached-by s store (Walking last h at) = refl
-reached-by s store (Leaving last) = rw (le-leb 0 (s .zone) (omega arith)) (and-yes _)
+by-numbers s store Fresh = rw (le-leb 0 (s .zone) (omega arith)) refl
+by-numbers s store (Astray last) = rw (le-leb 0 (s .zone) (omega arith)) (and-yes _)
+by-numbers s store (InStep last h) = ap (and (ltb last (2 ^ 24))) (test (eqb h 0) (λ t. rw (t, le-leb 0 (s .zone) (omega arith)) refl) (λ t. rw t refl))
+by-numbers s store (Walking last h at) = refl
+by-numbers s store (Leaving last) = rw (le-leb 0 (s .zone) (omega arith)) (and-yes _)
+
+-- and as the code has them
+pub reached-by : (s : Settings) (store : List ℕ) (x : Extractor) {last h at : ℕ} {yes : Bool} → last ≡ last-in x → h ≡ held-in x → at ≡ at-in x
+    → yes ≡ reached s store last h at → reachable s store x ≡ yes
+reached-by s store x l h a e = by-numbers s store x ∙ rw (← l, ← h, ← a) (sym e)
 
 -- ---- the rows
 
