@@ -8,7 +8,7 @@ use Rattle.bitstream.proofs.ReadBack.{read-back, has-bits}
 use Rattle.extractor.proofs.Theorems.{says-the-rules, spends-in-time}
 use Rattle.runfile.proofs.Theorems.{reads-run-files}
 use Rattle.demands.specs.Demand2.{Demand2}
-use Rattle.demands.proofs.CarefulRuns.{run-delivers, list-carried}
+use Rattle.carries.proofs.CarefulRuns.{run-delivers, list-carried}
 use Rattle.demands.proofs.RoundTrips.{orders-handed-over, list-handed-over}
 use Rattle.demands.proofs.SpaceAndPackets.{same-header}
 

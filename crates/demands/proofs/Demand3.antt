@@ -22,9 +22,9 @@ use Rattle.judge.specs.Calls.{close-says, closes-with}
 use Rattle.judge.proofs.Faults.{no-reason, entered-events, Passes}
 use Rattle.judge.proofs.Runs.{run-ran, run-is-verdict}
 use Rattle.judge.proofs.Verdicts.{walked-to, judged-step, judged-passes, judged-rest}
-use Rattle.demands.specs.Carries.{Carries}
+use Rattle.carries.specs.Carries.{Carries}
 use Rattle.demands.specs.Demand3.{Smooth, SmoothRun, HandsOver, Demand3}
-use Rattle.demands.proofs.Judging.{AsFresh, passes-fresh, judged-right}
+use Rattle.carries.proofs.Judging.{AsFresh, passes-fresh, judged-right}
 
 -- ---- the extractor's calls with a run that passes
 

@@ -1,17 +1,7 @@
-pub mod Bearing
-pub mod CarefulPuts
-pub mod CarefulRuns
-pub mod Carrying
 pub mod Computing
 pub mod Demand1
 pub mod Demand2
 pub mod Demand3
-pub mod Finding
-pub mod FirstStarts
-pub mod FrameRuns
-pub mod Joins
-pub mod Judging
-pub mod Laid
 pub mod OverC
 pub mod Numbered
 pub mod NumbersInC
@@ -20,5 +10,4 @@ pub mod Passed
 pub mod Promised
 pub mod RoundTrips
 pub mod SpaceAndPackets
-pub mod Weaker
 pub mod calls

@@ -32,7 +32,7 @@ use Rattle.judge.specs.Calls.{judging, judge-frame, frame-refusals, answers-fra
 use Rattle.judge.specs.declared.Closed.{Closed}
 use Rattle.bitstream.specs.Bitstream.{write-rows, Wrote, wrote, written, read-rows, reading}
 use Rattle.bitstream.specs.declared.Reading.{Reading}
-use Rattle.demands.specs.Carries.{Among}
+use Rattle.carries.specs.Carries.{Among}
 use Rattle.demands.specs.Numbers.Only.{OnlyThese}
 use Rattle.demands.proofs.Promised.{by-rows, through}
 use Rattle.demands.proofs.calls.Extractor.{unrefused}

@@ -17,12 +17,12 @@ use Rattle.extractor.specs.Calls.{Listened}
 use Rattle.extractor.proofs.Theorems.{says-the-rules}
 use Rattle.judge.specs.Calls.{CloseSaid, RunCalls}
 use Rattle.exports.specs.Channel.{zone-for, link-of, settings-of}
-use Rattle.demands.specs.Careful.{Sending, run}
-use Rattle.demands.specs.Demand2List.{Delivers}
+use Rattle.carries.specs.Careful.{Sending, run}
+use Rattle.carries.specs.Demand2List.{Delivers}
 use Rattle.demands.specs.Demand3.{HandsOver}
 use Rattle.demands.specs.OverC.Sending.{run-in-c}
 use Rattle.demands.specs.OverC.{Long, RunsInC, HandedOverInC, Demand2InC, Demand3InC, OverC}
-use Rattle.demands.proofs.CarefulRuns.{run-delivers, list-carried}
+use Rattle.carries.proofs.CarefulRuns.{run-delivers, list-carried}
 use Rattle.demands.proofs.Demand3.{demand-3}
 use Rattle.demands.proofs.OverC.Judges.{judges-in-c, closes-in-c}
 use Rattle.demands.proofs.OverC.Listens.{names-inside, listens-in-c, smooth-in-c}

@@ -17,7 +17,7 @@ use Rattle.judge.specs.Judge.{is-fault, faulty-entry, faulty, close, judged, ve
 use Rattle.bitstream.proofs.Passes as bitstream
 use Rattle.demands.specs.Table.{Pass1, Table}
 use Rattle.demands.proofs.Numbered.{numbers}
-use Rattle.demands.proofs.Weaker.{weaker}
+use Rattle.carries.proofs.Weaker.{weaker}
 
 pass-1 : Pass1
 unfolding number-from number octets field part limit-in-range look space encapsulation counted sized header-length is-idle key-of size-of told reading

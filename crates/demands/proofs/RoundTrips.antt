@@ -5,9 +5,9 @@ use Prim.Native.Nat.{_%_}
 use lib.ListN.{length}
 use Rattle.packets.specs.Packet.{end-to-end}
 use Rattle.multiplexer.specs.Calls.{to-put}
-use Rattle.demands.specs.Careful.{run, filler, offered}
+use Rattle.carries.specs.Careful.{run, filler, offered}
 use Rattle.demands.specs.RoundTrip.{OrdersHandedOver, ListHandedOver}
-use Rattle.demands.proofs.CarefulRuns.{run-delivers, list-carried}
+use Rattle.carries.proofs.CarefulRuns.{run-delivers, list-carried}
 use Rattle.demands.proofs.Demand3.{hands-over}
 
 pub orders-handed-over : OrdersHandedOver

@@ -19,7 +19,7 @@ use Rattle.bitstream.specs.declared.Writer.{Writer}
 use Rattle.bitstream.specs.declared.Reader.{Reader}
 use Rattle.extractor.specs.Statements.{SaysTheRules, SpendsInTime}
 use Rattle.runfile.specs.Statements.{ReadsRunFiles}
-use Rattle.demands.specs.Demand2List.{OrdersCarried, ListCarried}
+use Rattle.carries.specs.Demand2List.{OrdersCarried, ListCarried}
 use Rattle.demands.specs.RoundTrip.{OrdersHandedOver, ListHandedOver}
 use Rattle.demands.specs.SpaceAndPackets.{SameHeader}
 

@@ -16,7 +16,7 @@ use Rattle.extractor.specs.declared.Extractor.the-variants.{Fresh}
 use Rattle.judge.specs.Judge.{verdict}
 use Rattle.judge.specs.Calls.{close-says, closes-with, judge-calls, judge-run}
 use Rattle.judge.specs.declared.Judge.the-variants.{Open}
-use Rattle.demands.specs.Carries.{Carries}
+use Rattle.carries.specs.Carries.{Carries}
 
 -- all goes well with a frame: it is entered with nothing lost and nothing dropped, no step is refused or damaged, and the last spends it
 pub record Smooth (entered : EnterNumbers) (t : Finds) : Type 0 where

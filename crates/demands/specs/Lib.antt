@@ -1,8 +1,5 @@
-pub mod Careful
-pub mod Carries
 pub mod Demand1
 pub mod Demand2
-pub mod Demand2List
 pub mod Demand3
 pub mod OverC
 pub mod Numbers
@@ -10,5 +7,4 @@ pub mod Promises
 pub mod RoundTrip
 pub mod SpaceAndPackets
 pub mod Table
-pub mod Weaker
 pub mod calls

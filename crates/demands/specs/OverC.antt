@@ -20,9 +20,9 @@ use Rattle.judge.specs.declared.Judge.the-variants.{Open}
 use Rattle.exports.specs.Left.{Left}
 use Rattle.exports.specs.Channel.{settings-of}
 use Rattle.exports.specs.Extract.{step-leaves}
-use Rattle.demands.specs.Carries.{Carries}
-use Rattle.demands.specs.Careful.{run, filler, offered, Formed}
-use Rattle.demands.specs.Demand2List.{Lends, Delivers}
+use Rattle.carries.specs.Carries.{Carries}
+use Rattle.carries.specs.Careful.{run, filler, offered, Formed}
+use Rattle.carries.specs.Demand2List.{Lends, Delivers}
 use Rattle.demands.specs.Demand3.{Smooth}
 use Rattle.demands.specs.OverC.Sending.{as-sending, run-in-c}
 use Rattle.demands.specs.OverC.Listening.{Holding, holding, zeroed, Inside, as-finds, FrameInC, frame-in-c, as-listened, listen-in-c}

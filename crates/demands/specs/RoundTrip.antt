@@ -6,8 +6,8 @@ use Rattle.octets.specs.Basics.{All}
 use Rattle.packets.specs.Packet.{WellFormed, end-to-end}
 use Rattle.frames.specs.declared.Settings.{Settings}
 use Rattle.multiplexer.specs.Calls.{Call, to-put}
-use Rattle.demands.specs.Careful.{run, filler, offered, Formed}
-use Rattle.demands.specs.Demand2List.{Lends}
+use Rattle.carries.specs.Careful.{run, filler, offered, Formed}
+use Rattle.carries.specs.Demand2List.{Lends}
 use Rattle.demands.specs.Demand3.{HandsOver}
 
 -- Any orders: a fresh extractor with any store that is long enough, fed the frames, hands over exactly the packets with the

@@ -12,7 +12,7 @@ use Rattle.extractor.specs.Passes.{sample, first-frame, second-frame, Pass, pas
 use Rattle.judge.specs.Judge.{Verdict, pass, fault, verdict}
 use Rattle.bitstream.specs.Passes as bitstream
 use Rattle.demands.specs.Numbers.{Numbers}
-use Rattle.demands.specs.Weaker.{Weaker}
+use Rattle.carries.specs.Weaker.{Weaker}
 
 -- what is shown of a packet: its kind, version 0 for a space packet and 7 for an encapsulation packet; its APID or protocol; whether
 -- it is idle; and its length

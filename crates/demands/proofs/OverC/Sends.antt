@@ -23,7 +23,7 @@ use Rattle.exports.specs.Channel.{settings-of}
 use Rattle.exports.specs.Mux.{mux-of, mux-numbers, begin-leaves, put-numbers, flush-numbers, no-numbers, mux-leaves}
 use Rattle.exports.specs.Statements.{Word}
 use Rattle.exports.proofs.Theorems.{stated-again}
-use Rattle.demands.specs.Careful.{Sending, after, until-taken, with-care, run-from, run}
+use Rattle.carries.specs.Careful.{Sending, after, until-taken, with-care, run-from, run}
 use Rattle.demands.specs.OverC.Sending.{SendingInC, as-sending, says-full, says-taken, says-flushed, left-by, after-in-c, until-taken-in-c, with-care-in-c, run-from-in-c, run-in-c}
 use Rattle.demands.specs.OverC.{Long}
 use Rattle.demands.proofs.OverC.Arrays.{long-enough, told-front, told-long, kept-long}

@@ -24,7 +24,7 @@ use Rattle.bitstream.specs.Bitstream.{written}
 use Rattle.bitstream.specs.Bitstream as bits
 use Rattle.bitstream.specs.declared.Writer.{Writer}
 use Rattle.bitstream.specs.declared.Reader.{Reader}
-use Rattle.demands.specs.Carries.{Among}
+use Rattle.carries.specs.Carries.{Among}
 
 pub record OnlyThese : Type 0 where
   pub put : (s : Settings) (m : Mux) (p frame : List ℕ) → Among (answer s m (to-put p) frame .refusal) (0 ∷ 1 ∷ 2 ∷ 10 ∷ 9 ∷ 8 ∷ [])

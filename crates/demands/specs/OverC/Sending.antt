@@ -10,7 +10,7 @@ use Rattle.multiplexer.specs.Calls.{Call, to-put, to-flush, to-idle}
 use Rattle.exports.specs.Left.{Left}
 use Rattle.exports.specs.Channel.{settings-of}
 use Rattle.exports.specs.Mux.{mux-of, begin-leaves, put-numbers, flush-numbers, no-numbers, mux-leaves}
-use Rattle.demands.specs.Careful.{Sending}
+use Rattle.carries.specs.Careful.{Sending}
 
 -- what a caller has: the record's array, the answer's array, the frame that is lent now, the frames that are written, and what
 -- each call returned

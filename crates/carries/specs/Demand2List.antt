@@ -10,8 +10,8 @@ use Rattle.frames.specs.Link.{count-width}
 use Rattle.frames.specs.Frame.{in-range, frame-length, count}
 use Rattle.frames.specs.declared.Settings.{Settings}
 use Rattle.multiplexer.specs.Calls.{Call, to-put}
-use Rattle.demands.specs.Carries.{Carries}
-use Rattle.demands.specs.Careful.{Sending, run, filler, offered, Formed}
+use Rattle.carries.specs.Carries.{Carries}
+use Rattle.carries.specs.Careful.{Sending, run, filler, offered, Formed}
 
 -- settings in range, and for each frame a buffer that is long enough
 pub record Lends (s : Settings) (lend : ℕ → List ℕ) : Type 0 where

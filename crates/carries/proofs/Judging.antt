@@ -19,10 +19,10 @@ use Rattle.extractor.proofs.Walked.{begun-nil, begun-first}
 use Rattle.judge.specs.Judge.{opened, pass, verdict}
 use Rattle.judge.proofs.Faults.{Passes}
 use Rattle.judge.proofs.Verdicts.{walked-to, judged-passes}
-use Rattle.demands.specs.Carries.{Carries}
-use Rattle.demands.proofs.Bearing.{rising-follows, some-limit}
-use Rattle.demands.proofs.Carrying.{marked-same, heard-step, Runs, carried}
-use Rattle.demands.proofs.Finding.{Found, finds}
+use Rattle.carries.specs.Carries.{Carries}
+use Rattle.carries.proofs.Bearing.{rising-follows, some-limit}
+use Rattle.carries.proofs.Carrying.{marked-same, heard-step, Runs, carried}
+use Rattle.carries.proofs.Finding.{Found, finds}
 
 -- ---- a fresh extractor hears what the judge's hears
 

@@ -15,8 +15,8 @@ use Rattle.octets.proofs.Choices.{and-true}
 use Rattle.octets.proofs.Fronts.{all-joined}
 use Rattle.packets.specs.Packet.{end-to-end}
 use Rattle.frames.specs.Frame.{idle-zone, no-start}
-use Rattle.demands.specs.Carries.{starts, first-start, Among, Between}
-use Rattle.demands.proofs.Laid.{first-start-later, first-start-there, first-start-range}
+use Rattle.carries.specs.Carries.{starts, first-start, Among, Between}
+use Rattle.carries.proofs.Laid.{first-start-later, first-start-there, first-start-range}
 
 -- u, or v where u is no start
 abbrev pub or-else : ℕ → ℕ → ℕ

@@ -17,7 +17,7 @@ use Rattle.frames.proofs.Rows.{sound-frame}
 use Rattle.frames.proofs.Settled.{Settled}
 use Rattle.frames.proofs.Wheel.{count-lt, none-missing}
 use Rattle.extractor.specs.Extract.{lost-since}
-use Rattle.demands.specs.Carries.{Bears, Rising}
+use Rattle.carries.specs.Carries.{Bears, Rising}
 
 -- ---- the header
 

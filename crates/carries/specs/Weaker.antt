@@ -8,7 +8,7 @@ use Rattle.packets.specs.Packet.{WellFormed, end-to-end}
 use Rattle.frames.specs.Frame.{count, pointer, zone-of}
 use Rattle.frames.specs.declared.Settings.{Settings}
 use Rattle.judge.specs.Judge.{Verdict, pass, fault, verdict}
-use Rattle.demands.specs.Carries.{starts, first-start, Between, LaidFrom, Bears, Rising}
+use Rattle.carries.specs.Carries.{starts, first-start, Between, LaidFrom, Bears, Rising}
 
 -- Z = 2, M = 7
 abbrev pub small : Settings

@@ -20,7 +20,7 @@ use Rattle.frames.specs.Frame.{idle-zone, no-start, pointer, zone-of}
 use Rattle.frames.specs.declared.Settings.{Settings}
 use Rattle.extractor.specs.Extract.{agreed-look, agreed, member, reason-by}
 use Rattle.extractor.proofs.Walked.{BeginsFirst, cut-inside, nil-of-length}
-use Rattle.demands.specs.Carries.{starts, first-start, Among, Between, LaidFrom}
+use Rattle.carries.specs.Carries.{starts, first-start, Among, Between, LaidFrom}
 
 -- ---- starts
 

@@ -13,10 +13,10 @@ use Rattle.frames.specs.Frame.{idle-zone, count, pointer}
 use Rattle.frames.specs.declared.Settings.{Settings}
 use Rattle.frames.proofs.Framed.{Framed}
 use Rattle.frames.proofs.Settled.{Settled}
-use Rattle.demands.specs.Carries.{starts, first-start, Between, LaidFrom, Bears, Rising, Carries}
-use Rattle.demands.proofs.Bearing.{rows-bear}
-use Rattle.demands.proofs.FirstStarts.{first-start-not-idle}
-use Rattle.demands.proofs.Laid.{laid-idle, laid-data}
+use Rattle.carries.specs.Carries.{starts, first-start, Between, LaidFrom, Bears, Rising, Carries}
+use Rattle.carries.proofs.Bearing.{rows-bear}
+use Rattle.carries.proofs.FirstStarts.{first-start-not-idle}
+use Rattle.carries.proofs.Laid.{laid-idle, laid-data}
 
 -- ---- counts
 

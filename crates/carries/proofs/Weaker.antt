@@ -8,8 +8,8 @@ use Rattle.frames.specs.Link.{primary, zone-head, header-rows, count-width, nex
 use Rattle.frames.specs.Frame.{frame-length, unused, frame-rows, zone-of}
 use Rattle.extractor.specs.Extract.{take-in, step-of, reason-of, lost-since, reason-in, reason-by, agreed, agreed-look, walked, walk, walk-turns, walk-look}
 use Rattle.judge.specs.Judge.{is-fault, faulty-entry, faulty, close, judged, verdict}
-use Rattle.demands.specs.Carries.{starts, first-start, LaidFrom, Bears, Rising}
-use Rattle.demands.specs.Weaker.{Weaker}
+use Rattle.carries.specs.Carries.{starts, first-start, LaidFrom, Bears, Rising}
+use Rattle.carries.specs.Weaker.{Weaker}
 
 pub weaker : Weaker
 unfolding number-from number field part first look space encapsulation counted sized header-length is-idle primary zone-head header-rows count-width next-count missing frame-length unused frame-rows zone-of take-in step-of reason-of lost-since reason-in reason-by agreed agreed-look walked walk walk-turns walk-look is-fault faulty-entry faulty close judged verdict starts first-start LaidFrom Bears Rising

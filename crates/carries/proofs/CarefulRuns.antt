@@ -27,12 +27,12 @@ use Rattle.multiplexer.proofs.Answers.{done}
 use Rattle.multiplexer.proofs.Filling.{frame-written}
 use Rattle.multiplexer.proofs.Records.{passing, empty-passes, next-on-wheel}
 use Rattle.multiplexer.proofs.Unrefused.{flush-unrefused, idle-unrefused}
-use Rattle.demands.specs.Carries.{starts, Between}
-use Rattle.demands.specs.Careful.{Sending, set-out, answered, after, until-taken, with-care, run-from, run, filler, offered, Formed}
-use Rattle.demands.specs.Demand2List.{Delivers, OrdersCarried, ListCarried}
-use Rattle.demands.proofs.CarefulPuts.{length-snoc, At, Rests, Flushed, at-by, filled-at, lent-now, put-closes, puts-end}
-use Rattle.demands.proofs.FirstStarts.{Some, first-start-empty, between-ends}
-use Rattle.demands.proofs.FrameRuns.{count-at, Runs, runs-end, runs-idle, runs-carry}
+use Rattle.carries.specs.Carries.{starts, Between}
+use Rattle.carries.specs.Careful.{Sending, set-out, answered, after, until-taken, with-care, run-from, run, filler, offered, Formed}
+use Rattle.carries.specs.Demand2List.{Delivers, OrdersCarried, ListCarried}
+use Rattle.carries.proofs.CarefulPuts.{length-snoc, At, Rests, Flushed, at-by, filled-at, lent-now, put-closes, puts-end}
+use Rattle.carries.proofs.FirstStarts.{Some, first-start-empty, between-ends}
+use Rattle.carries.proofs.FrameRuns.{count-at, Runs, runs-end, runs-idle, runs-carry}
 
 -- a run at its end, where all of ws is put
 record Ended (s : Settings) (ws : List (List ℕ)) (x : Sending) : Type 0 where

@@ -25,10 +25,10 @@ use Rattle.extractor.proofs.Walked.{BeginsFirst, begun-first, Clean, walk-clean
 use Rattle.judge.specs.Judge.{pass, close, judged}
 use Rattle.judge.proofs.Faults.{Passes}
 use Rattle.judge.proofs.Verdicts.{walked-idle, walked-data, in-step-with, walked-to, judged-step, judged-passes}
-use Rattle.demands.specs.Carries.{starts, first-start, LaidFrom, Bears}
-use Rattle.demands.proofs.Bearing.{rows-bear, bears-length, Counted, count-fits, Follows, lost-next, some-limit}
-use Rattle.demands.proofs.Joins.{end-to-end-append}
-use Rattle.demands.proofs.Laid.{between-nil, laid-idle, laid-data, laid-shift, agreed-start, agrees-start, agrees-idle}
+use Rattle.carries.specs.Carries.{starts, first-start, LaidFrom, Bears}
+use Rattle.carries.proofs.Bearing.{rows-bear, bears-length, Counted, count-fits, Follows, lost-next, some-limit}
+use Rattle.carries.proofs.Joins.{end-to-end-append}
+use Rattle.carries.proofs.Laid.{between-nil, laid-idle, laid-data, laid-shift, agreed-start, agrees-start, agrees-idle}
 
 -- the packets that a run carries from its first frame on, of which `held` is the beginning
 pub record Found (s : Settings) (last : Option ℕ) (held : List ℕ) (fs : List (List ℕ)) : Type 0 where

@@ -26,9 +26,9 @@ use Rattle.extractor.proofs.Walked.{BeginsFirst, any-torn-marked, Cut, walk-cut
 use Rattle.judge.specs.Judge.{pass, close, judged}
 use Rattle.judge.proofs.Faults.{Passes, entered-events, entered-state}
 use Rattle.judge.proofs.Verdicts.{walked-idle, walked-data, in-step-with, walked-to, judged-step}
-use Rattle.demands.specs.Carries.{starts, first-start, Between, LaidFrom, Bears}
-use Rattle.demands.proofs.Bearing.{bears-rows, bears-length, Counted, count-fits, Follows, lost-next, some-limit}
-use Rattle.demands.proofs.Laid.{first-start-range, between-begun, idle-laid, data-laid, laid-shift, agreed-start, start-agrees, idle-agrees}
+use Rattle.carries.specs.Carries.{starts, first-start, Between, LaidFrom, Bears}
+use Rattle.carries.proofs.Bearing.{bears-rows, bears-length, Counted, count-fits, Follows, lost-next, some-limit}
+use Rattle.carries.proofs.Laid.{first-start-range, between-begun, idle-laid, data-laid, laid-shift, agreed-start, start-agrees, idle-agrees}
 
 -- ---- packets as events
 

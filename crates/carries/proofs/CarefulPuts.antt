@@ -29,12 +29,12 @@ use Rattle.multiplexer.proofs.Putting.{Fitting, fitting, put-passes}
 use Rattle.multiplexer.proofs.Records.{Passing, passing, start-fits}
 use Rattle.multiplexer.proofs.Rows.{Lent}
 use Rattle.multiplexer.proofs.Unrefused.{put-unrefused}
-use Rattle.demands.specs.Carries.{starts, first-start}
-use Rattle.demands.specs.Careful.{Sending, answered, until-taken}
-use Rattle.demands.proofs.FirstStarts.{Some, or-else, first-start-empty, first-start-new, first-start-on}
-use Rattle.demands.proofs.FrameRuns.{Runs, runs-data}
-use Rattle.demands.proofs.Joins.{end-to-end-append}
-use Rattle.demands.proofs.Laid.{first-start-range}
+use Rattle.carries.specs.Carries.{starts, first-start}
+use Rattle.carries.specs.Careful.{Sending, answered, until-taken}
+use Rattle.carries.proofs.FirstStarts.{Some, or-else, first-start-empty, first-start-new, first-start-on}
+use Rattle.carries.proofs.FrameRuns.{Runs, runs-data}
+use Rattle.carries.proofs.Joins.{end-to-end-append}
+use Rattle.carries.proofs.Laid.{first-start-range}
 
 -- ---- octets of the packet that is put now
 

@@ -1,0 +1,11 @@
+pub mod Bearing
+pub mod CarefulPuts
+pub mod CarefulRuns
+pub mod Carrying
+pub mod Finding
+pub mod FirstStarts
+pub mod FrameRuns
+pub mod Joins
+pub mod Judging
+pub mod Laid
+pub mod Weaker

@@ -1,0 +1,4 @@
+pub mod Carries
+pub mod Careful
+pub mod Demand2List
+pub mod Weaker
