@@ -13,10 +13,10 @@ use Rattle.octets.specs.Basics.{pick, first}
 use Rattle.octets.proofs.Choices.{apart}
 use Rattle.octets.proofs.Tests.{test}
 use Rattle.frames.specs.declared.Settings.{Settings}
-use Rattle.extractor.specs.Records.{step-rows, Stepped, step, step-call}
+use Rattle.extractor.specs.Records.{is-entered, step-rows, Stepped, step, step-call}
 use Rattle.extractor.specs.Answers.{stepped}
 use Rattle.extractor.specs.Calls.{Finds, one-more, none-left, goes-on, steps, through, spends-to, spend-answer, SpentLast}
-use Rattle.extractor.specs.Walks.{last-in, at-in, at-rest}
+use Rattle.extractor.specs.Walks.{at-rest}
 use Rattle.extractor.specs.declared.Extractor.{Extractor}
 use Rattle.extractor.specs.declared.Extractor.the-variants.{Fresh, Astray, InStep, Walking, Leaving}
 use Rattle.extractor.specs.declared.Found.{Found}
@@ -24,7 +24,7 @@ use Rattle.extractor.specs.declared.Found.the-variants.{Spent}
 use Rattle.extractor.specs.declared.Move.{Move}
 use Rattle.extractor.proofs.Extractor.{the-type}
 use Rattle.extractor.proofs.Settles.{Keeps, packed-goes-on, step-keeps, step-unrefused, spent-in-time}
-use Rattle.extractor.proofs.Turns.{Turn, leave, keep, break, give, turn}
+use Rattle.extractor.proofs.Turns.{Turn, keep, break, give, turn}
 use Rattle.extractor.proofs.Unrefused.{moves}
 
 spent-later : (a : Found) (found : List Found) → SpentLast (a ∷ found) → goes-on a ≡ true → SpentLast found
@@ -105,16 +105,14 @@ module _ (s : Settings) (f : List ℕ) where
 
   -- ---- the steps of a walk
 
-  -- what is left to do after a step of a record with this last count, from `at` on, for all the steps to leave t: the same from a later place
-  -- with nothing held, or nothing
+  -- what is left to do after a step from `at` on, for all the steps to leave t: the same from a later place with nothing held, or nothing
   abbrev pub Rest : Finds → ℕ → ℕ → Extractor → List ℕ → Type 0
   Rest t last at Fresh st = (Fresh ≡ t .next) × (st ≡ t .store)
   Rest t last at (Astray c) st = (Astray c ≡ t .next) × (st ≡ t .store)
   Rest t last at (InStep c h) st = (InStep c h ≡ t .next) × (st ≡ t .store)
   Rest t last at (Walking c h n) st =
-      (c ≡ last)
-      × ((first (step-rows s (Walking last 0 n) st f) ≡ 0)
-      × ((through s f (Walking last 0 n) st .next ≡ t .next) × ((through s f (Walking last 0 n) st .store ≡ t .store) × ((at < n) × (n ≤ s .zone)))))
+      (first (step-rows s (Walking last 0 n) st f) ≡ 0)
+      × ((through s f (Walking last 0 n) st .next ≡ t .next) × ((through s f (Walking last 0 n) st .store ≡ t .store) × ((at < n) × (n ≤ s .zone))))
   Rest t last at (Leaving c) st = (Astray c ≡ t .next) × (st ≡ t .store)
 
   -- out of step nothing is left
@@ -123,35 +121,30 @@ module _ (s : Settings) (f : List ℕ) where
   unfolding step
   leaving last store e = through-last (Leaving last) store e refl refl
 
-  turned : {x : Extractor} (store : List ℕ) {w : Stepped} → first (step-rows s x store f) ≡ 0 → step s f store x ≡ w → Turn s f store x w
-      → Rest (through s f x store) (last-in x) (at-in x) (w .next) (w .store)
-  turned store e is (leave {last}) =
-      let u = through-last (Leaving last) store e is refl in
-      (sym (ap (λ (t : Finds). t .next) u), sym (ap (λ (t : Finds). t .store) u))
-  turned store e is (keep {last} {h} {at} begun fits) =
+  turned : (last h at : ℕ) (store : List ℕ) {w : Stepped} → first (step-rows s (Walking last h at) store f) ≡ 0
+      → step s f store (Walking last h at) ≡ w → Turn s f store (Walking last h at) w
+      → Rest (through s f (Walking last h at) store) last at (w .next) (w .store)
+  turned last h at store e is (keep begun fits) =
       let u = through-last (Walking last h at) store e is refl in
       (sym (ap (λ (t : Finds). t .next) u), sym (ap (λ (t : Finds). t .store) u))
-  turned store e is (break {last} {h} {at} damaged before) =
+  turned last h at store e is (break damaged before) =
       let u = through-on (Walking last h at) store e is refl in
       let v = leaving last store (followed (Walking last h at) store e is refl) in
       (sym (ap (λ (t : Finds). t .next) u ∙ ap (λ (t : Finds). t .next) v), sym (ap (λ (t : Finds). t .store) u ∙ ap (λ (t : Finds). t .store) v))
-  turned store e is (give {last} {h} {at} packed seen fits shows rest low high same far) =
+  turned last h at store e is (give packed seen fits shows rest low high same far) =
       let on = packed-goes-on packed in
       let u = through-on (Walking last h at) store e is on in (
-        refl,
-        (
-          followed (Walking last h at) store e is on,
-          (sym (ap (λ (t : Finds). t .next) u), (sym (ap (λ (t : Finds). t .store) u), (low, high))),
-        ),
+        followed (Walking last h at) store e is on,
+        (sym (ap (λ (t : Finds). t .next) u), (sym (ap (λ (t : Finds). t .store) u), (low, high))),
       )
 
   -- the outcome of a step
-  pub rest-after : (x : Extractor) (store : List ℕ) (r : Move) (st : List ℕ) → first (step-rows s x store f) ≡ 0
-      → stepped r st ≡ step s f store x → Rest (through s f x store) (last-in x) (at-in x) (r .next) st
-  rest-after x store r st e told =
-      let m = moves s x store f e in
-      subst (λ (w : Stepped). Rest (through s f x store) (last-in x) (at-in x) (w .next) (w .store)) (sym told)
-      (turned store e refl (turn s f store (m .ranged) (m .framed) (m .room) x (m .reached) (m .underway)))
+  pub rest-after : (last h at : ℕ) (store : List ℕ) (r : Move) (st : List ℕ) → first (step-rows s (Walking last h at) store f) ≡ 0
+      → stepped r st ≡ step s f store (Walking last h at) → Rest (through s f (Walking last h at) store) last at (r .next) st
+  rest-after last h at store r st e told =
+      let m = moves s (Walking last h at) store f e in
+      subst (λ (w : Stepped). Rest (through s f (Walking last h at) store) last at (w .next) (w .store)) (sym told)
+      (turned last h at store e refl (turn s f store (m .ranged) (m .framed) (m .room) (Walking last h at) (m .reached) (m .underway)))
 
   -- a record that is no longer walked has nothing left
   pub none-after : (t : Finds) (last at : ℕ) (x : Extractor) (st : List ℕ) → OneOf (0 ∷ 1 ∷ 2 ∷ 4 ∷ []) (tagOf the-type x) → Rest t last at x st
@@ -161,3 +154,14 @@ module _ (s : Settings) (f : List ℕ) where
   none-after t last at (InStep c h) st k r = r
   none-after t last at (Walking c h n) st k r = absurd (miss (0 ∷ 1 ∷ 2 ∷ 4 ∷ []) 3 tt k)
   none-after t last at (Leaving c) st k r = r
+
+  -- and before the first step it is out of step
+  pub none-before : (x : Extractor) (store : List ℕ) → first (step-rows s x store f) ≡ 0 → OneOf (0 ∷ 1 ∷ 2 ∷ 4 ∷ []) (tagOf the-type x)
+      → (at-rest x ≡ through s f x store .next) × (store ≡ through s f x store .store)
+  unfolding is-entered
+  none-before Fresh store e k = let m = moves s Fresh store f e in apart (cc (m .underway))
+  none-before (Astray c) store e k = let m = moves s (Astray c) store f e in apart (cc (m .underway))
+  none-before (InStep c h) store e k = let m = moves s (InStep c h) store f e in apart (cc (m .underway))
+  none-before (Walking c h n) store e k = absurd (miss (0 ∷ 1 ∷ 2 ∷ 4 ∷ []) 3 tt k)
+  none-before (Leaving c) store e k =
+      let u = leaving c store e in (sym (ap (λ (t : Finds). t .next) u), sym (ap (λ (t : Finds). t .store) u))

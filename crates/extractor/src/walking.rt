@@ -148,7 +148,7 @@ fn walk_out(s: Settings, last: u32, at: usize, store: &mut [u8], frame: &[u8]) -
     }
 }
 
-// All the steps of a call that is not refused: octets are held before the first one alone, and damage ends them.
+// All the steps of a call that is not refused: octets are held before the first one alone.
 pub(crate) fn spent(
     s: Settings,
     x: Extractor,
@@ -161,9 +161,15 @@ pub(crate) fn spent(
     ensures { λ r. ⌜ r ≡ through s (now (frame .entry)) x (now (store .entry)) .next ⌝ }
     ensures { λ _. ⌜ now (store .exit) ≡ through s (now (frame .entry)) x (now (store .entry)) .store ⌝ }
 {
-    let step = moved(s, x, stated, store, frame);
+    let Extractor::Walking { last, held, at } = x else {
+        return at_rest(x);
+    };
+    if held == 0 {
+        return walk_out(s, last, at, store, frame);
+    }
+    let step = complete(s, last, held, stated, store, frame);
     let next = step.next;
-    let Extractor::Walking { last, at, .. } = next else {
+    let Extractor::Walking { at, .. } = next else {
         return at_rest(next);
     };
     walk_out(s, last, at, store, frame)

@@ -52,7 +52,7 @@ module _ (c : tie.After-walk Inv-loop μ-loop) where
 
   left : Left (c .walk .result .next)
   left =
-      rest-after (start .args .s) (start .args .frame .now) (Walking (start .args .last) 0 (at-loop .loop .from)) (at-loop .loop .store)
+      rest-after (start .args .s) (start .args .frame .now) (start .args .last) 0 (at-loop .loop .from) (at-loop .loop .store)
       (c .walk .result) (c .walk .last .1 .1 .1 .0) (at-loop .loop .inv .1 .0) (c .walk .ensures)
 
 same-length : tie.Need-same-length Inv-loop μ-loop
@@ -76,14 +76,14 @@ onward : (c : tie.After-known-told Inv-loop μ-loop)
 onward c = subst (Left (c .before .before .before .before .before)) (c .before .next .given .1) (left (c .before .before .before .before .before))
 
 loop-less : tie.Need-loop-less Inv-loop μ-loop
-loop-less c = let o = onward c in omega (arith, o .1 .1 .1 .1)
+loop-less c = let o = onward c in omega (arith, o .1 .1 .1)
 
 loop-again : tie.Need-loop-again Inv-loop μ-loop
 loop-again c =
     let at-walk = c .before .before .before .before .before in
     let i = at-loop at-walk .loop .inv in
     let o = onward c in
-    (at-walk .walk .kept .1 .1 .1 .0 ∙ i .0, (o .1 .0, (o .1 .1 .0 ∙ i .1 .1 .0, o .1 .1 .1 .0 ∙ i .1 .1 .1)))
+    (at-walk .walk .kept .1 .1 .1 .0 ∙ i .0, (o .0, (o .1 .0 ∙ i .1 .1 .0, o .1 .1 .0 ∙ i .1 .1 .1)))
 
 pub walk-out-spec : {M : Type 1} → statement M
 walk-out-spec =
