@@ -5,7 +5,7 @@ use mathlib.Core.Logic.{_⊎_, inl, inr}
 use mathlib.Core.List.{List, [], _∷_, _++_}
 use mathlib.Core.Option.{none}
 use mathlib.Core.Bool.{Bool, true, false}
-use Prim.Native.Nat.{ℕ, _+_}
+use Prim.Native.Nat.{ℕ}
 use native.Mathlib.Omega.{arith}
 use lib.Dec.{eqb}
 use borrow.Author.Tests.{eqb-true}
@@ -20,6 +20,7 @@ use Rattle.judge.specs.Judge.{opened, pass, verdict}
 use Rattle.judge.proofs.Faults.{Passes}
 use Rattle.judge.proofs.Verdicts.{walked-to, judged-passes}
 use Rattle.carries.specs.Carries.{Carries}
+use Rattle.carries.specs.Judged.{JudgedRight}
 use Rattle.carries.proofs.Bearing.{rising-follows, some-limit}
 use Rattle.carries.proofs.Carrying.{marked-same, heard-step, Runs, carried}
 use Rattle.carries.proofs.Finding.{Found, finds}
@@ -72,13 +73,6 @@ carries-runs s fs ps g c =
 
 found-carries : (s : Settings) (fs : List (List ℕ)) (r : Found s none [] fs) → Carries s fs (r .packets)
 found-carries s fs r = record { bear = r .bear; rise = rising-follows s fs .1 (r .follows); formed = r .formed; laid = r .laid }
-
--- what the rules' verdict on a run says, and what a fresh extractor hears of it
-pub record JudgedRight (s : Settings) (fs : List (List ℕ)) : Type 0 where
-  pub sound : verdict s fs ≡ pass → (ps : List (List ℕ)) × Carries s fs ps
-  pub complete : (ps : List (List ℕ)) → Carries s fs ps → verdict s fs ≡ pass
-  pub only : (ps qs : List (List ℕ)) → Carries s fs ps → Carries s fs qs → ps ≡ qs
-  pub handed-over : (ps : List (List ℕ)) → Carries s fs ps → heard s fresh fs ≡ marked ps
 
 -- Two lists that a run carries are equal because both are what is heard of it.
 pub judged-right : (s : Settings) → in-range s ≡ true → (fs : List (List ℕ)) → JudgedRight s fs

@@ -1,4 +1,5 @@
 pub mod Carries
 pub mod Careful
 pub mod Demand2List
+pub mod Judged
 pub mod Weaker

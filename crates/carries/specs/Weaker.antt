@@ -1,4 +1,5 @@
--- Runs that a weaker rule than `Carries` would carry, and that the judge faults: each of its parts is needed.
+-- Runs that a weaker rule than `Carries` would carry, and that the judge faults: rising counts, well-formed packets, pointers and the place of idle zones
+-- are all needed.
 use Prim.Native.Nat.{ℕ}
 use mathlib.Core.Path.{_≡_}
 use mathlib.Core.List.{List, [], _∷_}

@@ -5,7 +5,7 @@ use Rattle.demands.specs.Numbers.{Numbers}
 use Rattle.demands.specs.Numbers.Ranges.{Edges}
 use Rattle.demands.specs.Numbers.Octets as octets
 use Rattle.demands.specs.Numbers.FrameFields as frames
-use Rattle.demands.specs.Numbers.PacketFields.{SpacePackets, EncapsulationPackets, IdlePackets}
+use Rattle.demands.specs.Numbers.PacketFields.{SpacePackets, EncapsulationPackets, Parts, IdlePackets}
 use Rattle.demands.specs.Numbers.SpaceFields as space
 use Rattle.demands.specs.Numbers.Wrapping as wrapping
 use Rattle.demands.specs.Numbers.Multiplexing as multiplexing
@@ -45,7 +45,30 @@ ranges = record {
 
 octets-laid : octets.Octets
 unfolding computing.packets
-octets-laid = record { read = refl; written = refl; fields = refl; room = refl; over = refl; part = refl; part-over = refl }
+octets-laid = record {
+  read = refl;
+  longer = refl;
+  written = refl;
+  fields = refl;
+  room = refl;
+  over = refl;
+  part = refl;
+  part-over = refl;
+  handed-back = refl;
+}
+
+arrays-left : octets.Arrays
+unfolding computing.packets
+arrays-left = record {
+  flags = refl;
+  octets-of = refl;
+  counts-of = refl;
+  written = refl;
+  record-after = refl;
+  record-short = refl;
+  answers = refl;
+  answers-short = refl;
+}
 
 frame-read : frames.Read
 unfolding computing.frames
@@ -95,6 +118,10 @@ encapsulation-packets = record {
   versions = refl;
   stated = refl;
 }
+
+parts : Parts
+unfolding computing.packets
+parts = record { headers = refl; unfinished = refl; totals = refl; damaged = refl; idle = refl; not-idle = refl }
 
 space-headers : space.Headers
 unfolding computing.packets
@@ -146,7 +173,7 @@ wrap = record { wrap = refl; unwrap = refl; wrap-order = refl; unwrap-order = re
 
 write-idle : IdlePackets
 unfolding computing.packets
-write-idle = record { lengths = refl; rooms = refl; order = refl }
+write-idle = record { longest = refl; its-length = refl; lengths = refl; rooms = refl; order = refl }
 
 bitstream : bits.Refusals
 unfolding computing.bitstreams
@@ -310,12 +337,14 @@ pub numbers : Numbers
 numbers = record {
   ranges = ranges;
   layouts = record {
+    arrays = arrays-left;
     octets = octets-laid;
     frame-read = frame-read;
     frame-written = frame-written;
     wheel = wheel;
     space-packets = space-packets;
     encapsulation-packets = encapsulation-packets;
+    parts = parts;
     space-headers = space-headers;
   };
   refusals = record {

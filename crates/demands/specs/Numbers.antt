@@ -3,7 +3,7 @@ use Rattle.demands.specs.Numbers.Ranges.{Edges}
 use Rattle.demands.specs.Numbers.Only.{OnlyThese}
 use Rattle.demands.specs.Numbers.Octets as octets
 use Rattle.demands.specs.Numbers.FrameFields as frames
-use Rattle.demands.specs.Numbers.PacketFields.{SpacePackets, EncapsulationPackets, IdlePackets}
+use Rattle.demands.specs.Numbers.PacketFields.{SpacePackets, EncapsulationPackets, Parts, IdlePackets}
 use Rattle.demands.specs.Numbers.SpaceFields as space
 use Rattle.demands.specs.Numbers.Wrapping as wrapping
 use Rattle.demands.specs.Numbers.Multiplexing as multiplexing
@@ -33,12 +33,14 @@ pub mod InC
 
 -- layouts
 pub record Layouts : Type 0 where
+  pub arrays : octets.Arrays
   pub octets : octets.Octets
   pub frame-read : frames.Read
   pub frame-written : frames.Written
   pub wheel : frames.Wheel
   pub space-packets : SpacePackets
   pub encapsulation-packets : EncapsulationPackets
+  pub parts : Parts
   pub space-headers : space.Headers
 
 -- what each call is refused for, and in which order

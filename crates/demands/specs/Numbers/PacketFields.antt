@@ -3,11 +3,12 @@ use Prim.Native.Nat.{ℕ}
 use mathlib.Core.Path.{_≡_}
 use mathlib.Core.List.{List, [], _∷_, map}
 use mathlib.Core.Bool.{Bool, true, false}
-use lib.ListN.{replicate}
+use lib.ListN.{length, take, replicate}
 use Rattle.octets.specs.Basics.{first}
-use Rattle.packets.specs.Packet.{well-formed}
+use Rattle.packets.specs.Packet.{header-length, look, is-idle, well-formed}
+use Rattle.packets.specs.Packet as packet
 use Rattle.packets.specs.Header.{Reading, reading}
-use Rattle.wrapping.specs.Idle.{idle-packet-rows}
+use Rattle.wrapping.specs.Idle.{idle-packet, idle-packet-rows}
 
 -- a whole header: version, APID or protocol, whether it is idle, its length and the packet's
 abbrev pub whole : ℕ → ℕ → Bool → ℕ → ℕ → Reading
@@ -67,8 +68,23 @@ pub record EncapsulationPackets : Type 0 where
   -- a lent packet has exactly its stated length
   pub stated : map (well-formed 12) ((0xE5 ∷ 3 ∷ []) ∷ (0xE5 ∷ 3 ∷ 0 ∷ []) ∷ (0xE5 ∷ 3 ∷ 0 ∷ 0 ∷ []) ∷ (0xE5 ∷ 2 ∷ []) ∷ []) ≡ false ∷ true ∷ false ∷ true ∷ []
 
--- what writing an idle packet of r octets is refused for
+-- the header reader's parts, each by itself: a header's length, the length that is stated, and whether a packet is idle
+pub record Parts : Type 0 where
+  pub headers : map header-length (0 ∷ 1 ∷ 2 ∷ 3 ∷ []) ≡ 1 ∷ 2 ∷ 4 ∷ 8 ∷ []
+  pub unfinished : map (look 12) ([] ∷ replicate 5 0 ∷ (0xE5 ∷ []) ∷ (0xE6 ∷ 0 ∷ 0 ∷ []) ∷ (0xE7 ∷ replicate 6 0) ∷ []) ≡ replicate 5 packet.more
+  pub totals : map (look 12) ((0 ∷ 0 ∷ 0 ∷ 0 ∷ 0 ∷ 5 ∷ []) ∷ (0xE0 ∷ []) ∷ (0xE5 ∷ 12 ∷ []) ∷ (0xE6 ∷ 0 ∷ 0 ∷ 4 ∷ []) ∷ (0xE7 ∷ 0 ∷ 0 ∷ 0 ∷ 0 ∷ 0 ∷ 0 ∷ 8 ∷ []) ∷ [])
+      ≡ packet.whole 12 ∷ packet.whole 1 ∷ packet.whole 12 ∷ packet.whole 4 ∷ packet.whole 8 ∷ []
+  pub damaged : map (look 12) ((0 ∷ 0 ∷ 0 ∷ 0 ∷ 0 ∷ 6 ∷ []) ∷ (0xE4 ∷ []) ∷ (0xE5 ∷ 13 ∷ []) ∷ (0xE5 ∷ 1 ∷ []) ∷ (0x20 ∷ []) ∷ (0xC0 ∷ []) ∷ []) ≡ replicate 6 packet.damaged
+  -- APID 2,047 and protocol 0
+  pub idle : map is-idle ((0x07 ∷ 0xFF ∷ []) ∷ (0x1F ∷ 0xFF ∷ []) ∷ (0xE0 ∷ []) ∷ (0xE3 ∷ []) ∷ []) ≡ replicate 4 true
+  pub not-idle : map is-idle ((0x07 ∷ 0xFE ∷ []) ∷ (0x00 ∷ 0x00 ∷ []) ∷ (0xE5 ∷ []) ∷ (0xFD ∷ []) ∷ []) ≡ replicate 4 false
+
+-- an idle packet of r octets, and what writing it is refused for
 pub record IdlePackets : Type 0 where
+  -- from 256 octets on its header has four, whatever its length
+  pub longest : map (λ r. take 5 (idle-packet 0x55 r)) (257 ∷ 2045 ∷ 65535 ∷ [])
+      ≡ (0xE2 ∷ 0x00 ∷ 0x01 ∷ 0x01 ∷ 0x55 ∷ []) ∷ (0xE2 ∷ 0x00 ∷ 0x07 ∷ 0xFD ∷ 0x55 ∷ []) ∷ (0xE2 ∷ 0x00 ∷ 0xFF ∷ 0xFF ∷ 0x55 ∷ []) ∷ []
+  pub its-length : map (λ r. length (idle-packet 0x55 r)) (1 ∷ 2 ∷ 3 ∷ 257 ∷ 2045 ∷ 65535 ∷ []) ≡ 1 ∷ 2 ∷ 3 ∷ 257 ∷ 2045 ∷ 65535 ∷ []
   -- a length that no idle packet has, no room, and the first of the two
   pub lengths : map (λ r. first (idle-packet-rows r 65536)) (0 ∷ 1 ∷ 65535 ∷ 65536 ∷ []) ≡ 1 ∷ 0 ∷ 0 ∷ 1 ∷ []
   pub rooms : map (λ room. first (idle-packet-rows 3 room)) (0 ∷ 2 ∷ 3 ∷ []) ≡ 2 ∷ 2 ∷ 0 ∷ []

@@ -1,4 +1,4 @@
--- `octets::above` meets its contract: nothing is left above the word.
+-- `words::above` meets its contract: nothing is left above the word.
 -- Assumes nothing.
 use mathlib.Core.Path.{sym}
 use borrow.Author.Needs.{needs}

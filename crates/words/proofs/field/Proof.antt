@@ -1,4 +1,4 @@
--- `octets::field` meets its contract: a field that holds all that is left, and a mask below that.
+-- `words::field` meets its contract: a field that holds all that is left, and a mask below that.
 -- Assumes nothing.
 use mathlib.Core.Path.{sym, _∙_}
 use borrow.Author.Needs.{needs}

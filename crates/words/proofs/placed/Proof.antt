@@ -1,4 +1,4 @@
--- `octets::placed` meets its contract: what is left above the field, the value and the bits below are joined.
+-- `words::placed` meets its contract: what is left above the field, the value and the bits below are joined.
 -- Assumes nothing.
 use borrow.Author.Needs.{needs}
 use lib.Pow.{shr-shr}

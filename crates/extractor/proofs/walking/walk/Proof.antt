@@ -1,7 +1,6 @@
 -- `walking::walk` meets its contract: at each return what is at hand says which case of the definition holds.
 -- Assumes nothing.
 use mathlib.Core.Path.{refl, _∙_}
-use Prim.Native.Nat.{_-_}
 use native.Mathlib.Omega.{arith}
 use Rattle.extractor.proofs.Steps.{plain, step-torn, step-kept, kept-room, whole-there, step-frame}
 use borrow.Author.Needs.{needs}
