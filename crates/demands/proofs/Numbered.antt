@@ -1,6 +1,8 @@
 -- Document 01's numbers and layouts hold, by computing.
 -- Assumes nothing.
 use mathlib.Core.Path.{refl}
+use Rattle.packets.specs.Header.{seen}
+use Rattle.space.specs.Space.{space-writes}
 use Rattle.demands.specs.Numbers.{Numbers}
 use Rattle.demands.specs.Numbers.Ranges.{Edges}
 use Rattle.demands.specs.Numbers.Octets as octets
@@ -14,7 +16,7 @@ use Rattle.demands.specs.Numbers.Stepping as stepping
 use Rattle.demands.specs.Numbers.Judging as judging
 use Rattle.demands.specs.Numbers.Bits as bits
 use Rattle.demands.specs.Numbers.RunFiles as runs
-use Rattle.demands.specs.Numbers.Answers.{Cases}
+use Rattle.demands.specs.Numbers.Answers.{Cases, Together}
 use Rattle.demands.proofs.Computing as computing
 use Rattle.demands.proofs.NumbersInC.{in-c}
 use Rattle.demands.proofs.OnlyThese.{only-these}
@@ -315,7 +317,7 @@ run-files = record {
 }
 
 answers : Cases
-unfolding computing.multiplexing computing.judging
+unfolding computing.multiplexing computing.judging seen
 answers = record {
   entering = refl;
   refused-step = refl;
@@ -331,6 +333,19 @@ answers = record {
   wrapped = refl;
   unwrapped = refl;
   space-read = refl;
+  lengths = refl;
+}
+
+together : Together
+unfolding computing.judging space-writes
+together = record {
+  entering = refl;
+  stepping = refl;
+  spending = refl;
+  judging = refl;
+  writing-bits = refl;
+  writing-space = refl;
+  in-c = refl;
 }
 
 pub numbers : Numbers
@@ -371,5 +386,6 @@ numbers = record {
   };
   run-files = run-files;
   answers = answers;
+  together = together;
   in-c = in-c;
 }

@@ -12,7 +12,7 @@ use Rattle.demands.specs.Numbers.Stepping as stepping
 use Rattle.demands.specs.Numbers.Judging as judging
 use Rattle.demands.specs.Numbers.Bits as bits
 use Rattle.demands.specs.Numbers.RunFiles as runs
-use Rattle.demands.specs.Numbers.Answers.{Cases}
+use Rattle.demands.specs.Numbers.Answers.{Cases, Together}
 use Rattle.demands.specs.Numbers.InC as arrays
 pub mod Samples
 pub mod Octets
@@ -74,4 +74,5 @@ pub record Numbers : Type 0 where
   pub outcomes : Outcomes
   pub run-files : runs.Records
   pub answers : Cases
+  pub together : Together
   pub in-c : arrays.InC

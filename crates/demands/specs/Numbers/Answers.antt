@@ -3,23 +3,30 @@ use Prim.Native.Nat.{ℕ}
 use mathlib.Core.Path.{_≡_}
 use mathlib.Core.List.{List, [], _∷_, map}
 use mathlib.Core.Bool.{true, false}
-use Rattle.packets.specs.Header.{answer}
+use Rattle.packets.specs.Packet as packet
+use Rattle.packets.specs.Header.{answer, seen}
 use Rattle.wrapping.specs.Wrap.{wraps}
 use Rattle.packets.specs.Unwrap.{unwraps}
 use Rattle.packets.specs.declared.Kind.the-variants.{Space, Encapsulation}
 use Rattle.packets.specs.declared.Header.{Header}
+use Rattle.packets.specs.declared.Seen.{Seen}
 use Rattle.wrapping.specs.declared.Wrapped.{Wrapped}
 use Rattle.packets.specs.declared.unwrapping.Unwrapped.{Unwrapped}
-use Rattle.space.specs.Space.{space-reads}
+use Rattle.space.specs.Space.{space-reads, space-writes}
 use Rattle.space.specs.declared.SpaceRead.{SpaceRead}
 use Rattle.multiplexer.specs.Calls.{answers}
 use Rattle.multiplexer.specs.declared.Reply.{Reply}
 use Rattle.extractor.specs.Records.{shown}
-use Rattle.extractor.specs.Answers.{EnterNumbers, entered-numbers, StepNumbers, found-numbers}
+use Rattle.extractor.specs.Answers.{EnterNumbers, entered-numbers, enter-says, StepNumbers, found-numbers, step-says}
+use Rattle.extractor.specs.Calls.{spend-says}
+use Rattle.extractor.specs.declared.Extractor.the-variants.{Walking}
 use Rattle.extractor.specs.declared.Entered.{Entered}
 use Rattle.extractor.specs.declared.Found.{Found}
-use Rattle.judge.specs.Calls.{close-says}
+use Rattle.judge.specs.Calls.{close-says, frame-says}
+use Rattle.judge.specs.declared.Judge.the-variants.{Faulty}
 use Rattle.judge.specs.declared.Closed.{Closed}
+use Rattle.bitstream.specs.Bitstream.{wrote}
+use Rattle.exports.specs.Left.{left}
 use Rattle.demands.specs.Numbers.Multiplexing.{mux, done}
 use Rattle.demands.specs.Numbers.PacketFields.{whole, bare}
 use Rattle.demands.specs.Numbers.SpaceFields.{fields, reads}
@@ -69,3 +76,15 @@ pub record Cases : Type 0 where
       ≡ record { accepted = false; refusal = 6; protocol = 0; extension = 0; start = 0; size = 0 } ∷ says 6 1 4 9 ∷ []
   pub space-read : map space-reads (SpaceRead.Refused 8 ∷ SpaceRead.Read (fields 1 0 2 3 4 5) ∷ [])
       ≡ record { accepted = false; refusal = 8; header = fields 0 0 0 0 0 0 } ∷ reads (fields 1 0 2 3 4 5) ∷ []
+  pub lengths : map seen (Seen.More ∷ Seen.Damaged ∷ Seen.Whole 5 ∷ []) ≡ packet.more ∷ packet.damaged ∷ packet.whole 5 ∷ []
+
+-- an answer, the record and the octets that a call leaves, put together: each stands as it is
+pub record Together : Type 0 where
+  pub entering : enter-says (record { entered = Entered.Refused 9; next = Walking 1 2 3 }) ≡ record { answer = entered 9 0 0 0 0 0 0; next = Walking 1 2 3 }
+  pub stepping : step-says (record { found = Found.Refused 9; next = Walking 1 2 3 }) (1 ∷ 2 ∷ 3 ∷ []) (4 ∷ 5 ∷ 6 ∷ [])
+      ≡ record { answer = found 9 0 0 0 0 []; next = Walking 1 2 3; store = 4 ∷ 5 ∷ 6 ∷ [] }
+  pub spending : spend-says (record { refusal = 9; next = Walking 1 2 3 }) (7 ∷ []) ≡ record { refusal = 9; next = Walking 1 2 3; store = 7 ∷ [] }
+  pub judging : frame-says (record { refusal = 11; next = Faulty 2 1 }) (7 ∷ []) ≡ record { refusal = 11; next = Faulty 2 1; store = 7 ∷ [] }
+  pub writing-bits : wrote (record { refusal = 10; writer = record { count = 5 } }) (7 ∷ []) ≡ record { said = record { refusal = 10; writer = record { count = 5 } }; frame = 7 ∷ [] }
+  pub writing-space : space-writes 1 (7 ∷ []) ≡ record { refusal = 1; output = 7 ∷ [] }
+  pub in-c : left 1 (2 ∷ []) (3 ∷ []) (4 ∷ []) ≡ record { refusal = 1; numbers = 2 ∷ []; octets = 3 ∷ []; answer = 4 ∷ [] }
