@@ -342,6 +342,7 @@ together = record {
   entering = refl;
   stepping = refl;
   spending = refl;
+  spent = refl;
   judging = refl;
   writing-bits = refl;
   writing-space = refl;

@@ -18,7 +18,7 @@ use Rattle.multiplexer.specs.Calls.{answers}
 use Rattle.multiplexer.specs.declared.Reply.{Reply}
 use Rattle.extractor.specs.Records.{shown}
 use Rattle.extractor.specs.Answers.{EnterNumbers, entered-numbers, enter-says, StepNumbers, found-numbers, step-says}
-use Rattle.extractor.specs.Calls.{spend-says}
+use Rattle.extractor.specs.Calls.{spends-to, spend-says}
 use Rattle.extractor.specs.declared.Extractor.the-variants.{Walking}
 use Rattle.extractor.specs.declared.Entered.{Entered}
 use Rattle.extractor.specs.declared.Found.{Found}
@@ -84,6 +84,7 @@ pub record Together : Type 0 where
   pub stepping : step-says (record { found = Found.Refused 9; next = Walking 1 2 3 }) (1 ∷ 2 ∷ 3 ∷ []) (4 ∷ 5 ∷ 6 ∷ [])
       ≡ record { answer = found 9 0 0 0 0 []; next = Walking 1 2 3; store = 4 ∷ 5 ∷ 6 ∷ [] }
   pub spending : spend-says (record { refusal = 9; next = Walking 1 2 3 }) (7 ∷ []) ≡ record { refusal = 9; next = Walking 1 2 3; store = 7 ∷ [] }
+  pub spent : spends-to 9 (Walking 1 2 3) (7 ∷ []) ≡ record { refusal = 9; next = Walking 1 2 3; store = 7 ∷ [] }
   pub judging : frame-says (record { refusal = 11; next = Faulty 2 1 }) (7 ∷ []) ≡ record { refusal = 11; next = Faulty 2 1; store = 7 ∷ [] }
   pub writing-bits : wrote (record { refusal = 10; writer = record { count = 5 } }) (7 ∷ []) ≡ record { said = record { refusal = 10; writer = record { count = 5 } }; frame = 7 ∷ [] }
   pub writing-space : space-writes 1 (7 ∷ []) ≡ record { refusal = 1; output = 7 ∷ [] }
