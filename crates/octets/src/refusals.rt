@@ -32,3 +32,6 @@ pub const RECORD: u8 = 10;
 
 // A frame is beyond the last that a run can have.
 pub const FRAMES: u8 = 11;
+
+// A relay table has too many entries, an APID that no entry has, or the same entry twice.
+pub const TABLE: u8 = 12;
