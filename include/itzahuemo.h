@@ -1,5 +1,6 @@
 /*
- * itzahuemo: packets in and out of the frames of one AOS virtual channel.
+ * itzahuemo: packets in and out of the frames of one AOS virtual channel, and
+ * where they go from there.
  *
  * How to read this file
  * ---------------------
@@ -17,21 +18,24 @@
  * enum names the entries of each, and its last constant, ITZ_..._NUMBERS, says
  * how many there are. An array that is shorter is refused (2) before anything
  * else is looked at, and then nothing at all is written, the answer included.
- * Entries past those are neither read nor written.
+ * Entries past those are neither read nor written. Only the list that a relay
+ * table is loaded from has any number of entries, and is read to its end.
  *
  * Slices. Each buffer or array is lent as a pointer and the number of its
  * entries, and the pointer must be good for that many. A null pointer may be
  * lent with 0 entries: nothing is read or written through it. A buffer may be
  * longer than needed; then its tail is left alone. The exceptions are a frame
  * to be read, which is refused (3) when it is longer, and a packet to be put,
- * tested or unwrapped, whose stated length must be exactly what is lent.
+ * tested, unwrapped or routed, whose stated length must be exactly what is
+ * lent.
  *
  * Aliasing. What a call may write, the pointers without const, must not
  * overlap anything else lent to that call. What it only reads may overlap.
  *
  * Records. A caller starts one as its comment says and afterwards only hands it
  * back. A record with a kind that is not listed, a number that is too great, or
- * an entry that its kind does not use and that is not 0, is refused (10).
+ * an entry that its kind does not use and that is not 0, is refused (10). A
+ * relay table is a record as well: one that no load can have left is 10.
  *
  * The store. Extractor and judge hold the front of an unfinished packet in a
  * store that the caller lends with each call, at least `limit` octets. Use one
@@ -40,7 +44,8 @@
  * Threads. The library keeps nothing between calls and has no variables of its
  * own: what has to be remembered is in the record and the store, and both
  * belong to the caller. Calls with different records, stores and answers may
- * run at the same time; calls that share one of those may not.
+ * run at the same time; calls that share one of those may not, but for a record
+ * that all of them only read, as routing does a table.
  *
  * Machine. x86-64 Linux, by its usual calling convention. The library uses no
  * heap, no files and no signals, and of the C library only memcpy, memmove and
@@ -82,7 +87,9 @@ enum itz_refusal {
     ITZ_REFUSED_MOMENT = 9,   /* wrong moment for this call */
     ITZ_REFUSED_RECORD = 10,  /* the record, or the octets held in the store, are not ones that
                                  the calls can have left there */
-    ITZ_REFUSED_LAST = 11     /* a frame beyond the judge's last */
+    ITZ_REFUSED_LAST = 11,    /* a frame beyond the judge's last */
+    ITZ_REFUSED_TABLE = 12    /* the entries make no relay table: they are more than 32, or one has
+                                 an APID above 2046, or two are the same */
 };
 
 /* Settings of a channel that carries packets. */
@@ -517,6 +524,55 @@ ITZ_CALL uint64_t itz_bits_read(const uint64_t *settings, size_t settings_len,
                                 uint64_t *record, size_t record_len,
                                 const uint8_t *frame, size_t frame_len,
                                 uint64_t *answer, size_t answer_len);
+
+/* ---- Relay -------------------------------------------------------------- */
+
+/* A relay table, a record which starts as ITZ_RELAY_START: the empty table. */
+enum {
+    ITZ_RELAY_COUNT,    /* entries of the table, 0 to 32 */
+    ITZ_RELAY_ENTRIES,  /* the first entry: an APID, 0 to 2046, and behind it a destination, 0 to
+                           255; the others follow, and 0 past the last */
+    ITZ_RELAY_NUMBERS = 65
+};
+
+#define ITZ_RELAY_START { 0 }
+
+/*
+ * Replaces the whole table by a list of entries: an APID, its destination, the
+ * next APID, its destination, and so on. An APID may have several destinations.
+ * The list may be empty; one that ends within an entry is an array that is too
+ * short. What the table held before does not matter.
+ *
+ * Order of refusals: 1, 12. 1 is a destination above 255, in whichever entry; 12
+ * is more than 32 entries, an APID above 2046, or the same pair twice.
+ */
+ITZ_CALL uint64_t itz_relay_load(const uint64_t *entries, size_t entries_len,
+                                 uint64_t *table, size_t table_len);
+
+/*
+ * Finds where a packet goes: to all destinations of its APID, one octet each at
+ * the front of `destinations`, in table order. There is no path for an APID
+ * without an entry, an idle packet or any encapsulation packet.
+ *
+ * Order of refusals: 1, 10, 8, 2. 2 is fewer octets than this packet has
+ * destinations; 32 are enough for any.
+ */
+enum {
+    ITZ_ROUTED_WHAT,
+    ITZ_ROUTED_COUNT,  /* destinations written, 1 at least with a path and 0 without */
+    ITZ_ROUTED_NUMBERS
+};
+
+enum itz_routed {
+    ITZ_NO_PATH = 1,
+    ITZ_PATH = 2
+};
+
+ITZ_CALL uint64_t itz_relay_route(uint64_t limit,
+                                  const uint64_t *table, size_t table_len,
+                                  const uint8_t *packet, size_t packet_len,
+                                  uint8_t *destinations, size_t destinations_len,
+                                  uint64_t *answer, size_t answer_len);
 
 #ifdef __cplusplus
 }

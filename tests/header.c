@@ -332,6 +332,51 @@ static void bits(void)
     IS(read[ITZ_BITS_REPLAY], 0);
 }
 
+static void relays(void)
+{
+    static const uint64_t paths[] = {5, 7, 6, 8, 5, 9};
+    static const uint64_t beyond[] = {5, 256};
+    static const uint64_t idle[] = {2047, 7};
+    uint64_t table[ITZ_RELAY_NUMBERS] = ITZ_RELAY_START;
+    uint64_t routed[ITZ_ROUTED_NUMBERS];
+    uint8_t destinations[3] = {0x55, 0x55, 0x55};
+
+    IS(itz_relay_route(LIMIT, ARRAY(table), SIZED(space), NULL, 0, ARRAY(routed)), ITZ_ACCEPTED);
+    IS(routed[ITZ_ROUTED_WHAT], ITZ_NO_PATH);
+    IS(routed[ITZ_ROUTED_COUNT], 0);
+
+    IS(itz_relay_load(ARRAY(paths), SHORT(table)), ITZ_REFUSED_ROOM);
+    IS(itz_relay_load(SHORT(paths), ARRAY(table)), ITZ_REFUSED_ROOM);
+    IS(itz_relay_load(ARRAY(beyond), ARRAY(table)), ITZ_REFUSED_SETTING);
+    IS(itz_relay_load(ARRAY(idle), ARRAY(table)), ITZ_REFUSED_TABLE);
+    IS(table[ITZ_RELAY_COUNT], 0);
+    IS(itz_relay_load(ARRAY(paths), ARRAY(table)), ITZ_ACCEPTED);
+    IS(table[ITZ_RELAY_COUNT], 3);
+    HOLDS(memcmp(table + ITZ_RELAY_ENTRIES, paths, sizeof paths) == 0);
+    IS(table[ITZ_RELAY_NUMBERS - 1], 0);
+
+    IS(itz_relay_route(LIMIT, SHORT(table), SIZED(space), SIZED(destinations), ARRAY(routed)), ITZ_REFUSED_ROOM);
+    IS(itz_relay_route(LIMIT, ARRAY(table), SIZED(space), SIZED(destinations), SHORT(routed)), ITZ_REFUSED_ROOM);
+    IS(itz_relay_route(6, ARRAY(table), SIZED(space), SIZED(destinations), ARRAY(routed)), ITZ_REFUSED_SETTING);
+    IS(itz_relay_route(LIMIT, ARRAY(table), SHORT(space), SIZED(destinations), ARRAY(routed)), ITZ_REFUSED_PACKET);
+    IS(itz_relay_route(LIMIT, ARRAY(table), SIZED(space), destinations, 1, ARRAY(routed)), ITZ_REFUSED_ROOM);
+    IS(routed[ITZ_ROUTED_WHAT], 0);
+    IS(itz_relay_route(LIMIT, ARRAY(table), SIZED(space), SIZED(destinations), ARRAY(routed)), ITZ_ACCEPTED);
+    IS(routed[ITZ_ROUTED_WHAT], ITZ_PATH);
+    IS(routed[ITZ_ROUTED_COUNT], 2);
+    IS(destinations[0], 7);
+    IS(destinations[1], 9);
+    IS(destinations[2], 0x55);
+    IS(itz_relay_route(LIMIT, ARRAY(table), SIZED(wrapped), NULL, 0, ARRAY(routed)), ITZ_ACCEPTED);
+    IS(routed[ITZ_ROUTED_WHAT], ITZ_NO_PATH);
+
+    table[ITZ_RELAY_COUNT] = 33;
+    IS(itz_relay_route(LIMIT, ARRAY(table), SIZED(space), SIZED(destinations), ARRAY(routed)), ITZ_REFUSED_RECORD);
+    IS(itz_relay_load(NULL, 0, ARRAY(table)), ITZ_ACCEPTED);
+    IS(table[ITZ_RELAY_COUNT], 0);
+    IS(table[ITZ_RELAY_ENTRIES], 0);
+}
+
 int main(void)
 {
     set();
@@ -341,6 +386,7 @@ int main(void)
     extracting();
     judging();
     bits();
+    relays();
     printf("%u answers, 0 differ\n", checks);
     return EXIT_SUCCESS;
 }

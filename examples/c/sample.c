@@ -3,7 +3,8 @@
  *
  * A space packet and an encapsulation packet go through the multiplexer, and a
  * flush closes the last frame. The frames then go to an extractor, which hands
- * the packets back, and to a judge, which says whether the run is sound.
+ * the packets back, and to a judge, which says whether the run is sound. A relay
+ * table says where the space packet goes from there.
  *
  * `make` beside this file builds it, and the library where it is not there yet.
  */
@@ -119,13 +120,30 @@ static void judge(void)
         printf("fault %" PRIu64 "\n", verdict[ITZ_VERDICT_INDEX]);
 }
 
+/* ---- Relaying ----------------------------------------------------------- */
+
+/* Says where a packet goes by the table. */
+static void relay(const uint64_t *table, const uint8_t *packet, size_t size)
+{
+    uint64_t routed[ITZ_ROUTED_NUMBERS];
+    uint8_t destinations[32]; /* room for those of any table */
+    must("route", itz_relay_route(LIMIT, table, ITZ_RELAY_NUMBERS, packet, size,
+                                  destinations, sizeof destinations, routed, ITZ_ROUTED_NUMBERS));
+    printf("%s", routed[ITZ_ROUTED_WHAT] == ITZ_PATH ? "routed to" : "no path");
+    for (size_t i = 0; i < routed[ITZ_ROUTED_COUNT]; i++)
+        printf(" %d", destinations[i]);
+    printf("\n");
+}
+
 int main(void)
 {
     static const uint8_t space[] = {0x00, 0x05, 0xC0, 0x00, 0x00, 0x01, 0xAA, 0xBB};
     static const uint8_t encapsulation[] = {0xE9, 0x05, 0x11, 0x22, 0x33};
+    static const uint64_t paths[] = {5, 7, 5, 2}; /* APID 5 goes to 7 and to 2 */
     static uint8_t store[LIMIT];
     uint64_t mux[ITZ_MUX_NUMBERS];
     uint64_t extractor[ITZ_EXTRACTOR_NUMBERS] = ITZ_EXTRACTOR_START;
+    uint64_t table[ITZ_RELAY_NUMBERS] = ITZ_RELAY_START;
 
     must("begin", itz_mux_begin(mux, ITZ_MUX_NUMBERS));
     send_packet(mux, space, sizeof space);
@@ -134,5 +152,7 @@ int main(void)
     for (size_t i = 0; i < written; i++)
         receive(extractor, store, frames[i]);
     judge();
+    must("load", itz_relay_load(paths, sizeof paths / sizeof paths[0], table, ITZ_RELAY_NUMBERS));
+    relay(table, space, sizeof space);
     return EXIT_SUCCESS;
 }
