@@ -10,6 +10,7 @@ use crate::reference::frame::Settings;
 use crate::reference::judge::{self, Verdict};
 use crate::reference::multiplexer;
 use crate::reference::packet::{self, Kind, Look};
+use crate::reference::relay::{self, Entry, Table};
 use crate::reference::{space, wrap, Refusal};
 
 /// Entries of each array.
@@ -34,6 +35,8 @@ pub const VERDICT: usize = 2;
 pub const BIT_WRITER: usize = 1;
 pub const BIT_READER: usize = 2;
 pub const BITS: usize = 6;
+pub const RELAY: usize = 65;
+pub const ROUTED: usize = 2;
 
 /// Every call of include/itzahuemo.h, in the header's order: its name without `itz_` and what it is
 /// lent. The trait, the library's declarations and all that only forwards a call are made from this
@@ -75,6 +78,11 @@ macro_rules! each_call {
                 bits: &[u8], number: u64, frame: &mut [u8]
             );
             bits_read(settings: &[u64], record: &mut [u64], frame: &[u8], answer: &mut [u64]);
+            relay_load(entries: &[u64], table: &mut [u64]);
+            relay_route(
+                limit: u64, table: &[u64],
+                packet: &[u8], destinations: &mut [u8], answer: &mut [u64]
+            );
         }
     };
 }
@@ -90,7 +98,7 @@ macro_rules! the_trait {
 
 each_call!(the_trait);
 
-/// The calls as document 01 has them.
+/// The calls as the documents have them.
 #[derive(Clone, Copy, Debug, Default)]
 pub struct Reference;
 
@@ -366,6 +374,34 @@ impl Calls for Reference {
             },
         )
     }
+
+    fn relay_load(&self, entries: &[u64], table: &mut [u64]) -> u64 {
+        match front_mut(table) {
+            Some(table) if entries.len() % 2 == 0 => answered::<0>(&mut [], || {
+                *table = table_numbers(&relay::load(&read_entries(entries))?);
+                Ok([])
+            }),
+            _ => Refusal::Room.number(),
+        }
+    }
+
+    fn relay_route(
+        &self,
+        limit: u64,
+        table: &[u64],
+        packet: &[u8],
+        destinations: &mut [u8],
+        answer: &mut [u64],
+    ) -> u64 {
+        match front(table) {
+            Some(table) => answered::<ROUTED>(answer, || {
+                let table = read_table(table);
+                let count = relay::route(number(limit)?, &table, packet, destinations)?;
+                Ok([if count == 0 { 1 } else { 2 }, count as u64])
+            }),
+            None => Refusal::Room.number(),
+        }
+    }
 }
 
 /// Fills the answer: with what the call says, or with zeros when it is refused.
@@ -537,4 +573,32 @@ fn read_bit_reader(record: &[u64; BIT_READER]) -> Reader {
         [1, last] => Reader { last: Some(fitted(last)) },
         _ => Reader { last: Some(u32::MAX) },
     }
+}
+
+/// A list of APIDs and destinations in turn.
+fn read_entries(numbers: &[u64]) -> Vec<Entry> {
+    numbers.chunks_exact(2).map(|pair| Entry { apid: pair[0], destination: pair[1] }).collect()
+}
+
+/// Numbers that stand for no table are read as one that no load leaves.
+fn read_table(numbers: &[u64; RELAY]) -> Table {
+    let [count, places @ ..] = numbers;
+    let entries = read_entries(places);
+    let used = usize::try_from(*count).unwrap_or(usize::MAX);
+    let unused = Entry { apid: 0, destination: 0 };
+    match entries.get(used..) {
+        Some(rest) if rest.iter().all(|entry| *entry == unused) => {
+            Table { entries: entries[..used].to_vec() }
+        }
+        _ => Table { entries: vec![Entry { apid: u64::MAX, destination: 0 }] },
+    }
+}
+
+fn table_numbers(table: &Table) -> [u64; RELAY] {
+    let mut numbers = [0; RELAY];
+    numbers[0] = table.entries.len() as u64;
+    for (place, entry) in numbers[1..].chunks_exact_mut(2).zip(&table.entries) {
+        place.copy_from_slice(&[entry.apid, entry.destination]);
+    }
+    numbers
 }

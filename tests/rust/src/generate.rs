@@ -1,6 +1,6 @@
-//! Generators: settings, packets, runs that conform, and ways to spoil them.
+//! Generators: settings, packets, runs that conform, relay tables, and ways to spoil them.
 
-use crate::calls::{BIT_SETTINGS, EXTRACTOR, JUDGE, MUX, SETTINGS, SPACE_HEADER};
+use crate::calls::{BIT_SETTINGS, EXTRACTOR, JUDGE, MUX, RELAY, SETTINGS, SPACE_HEADER};
 use crate::random::Random;
 use crate::reference::frame::{self, Settings, HEAD, IDLE_ZONE, NO_START, WHEEL};
 use crate::reference::multiplexer;
@@ -179,6 +179,126 @@ pub fn space_numbers(random: &mut Random) -> [u64; SPACE_HEADER] {
         numbers[place] = random.pick(&[ranges[place], ranges[place] + 1, huge]);
     }
     numbers
+}
+
+/// Entries of a relay table, APID and destination in turn, no two of them the same. There are at
+/// most three APIDs, so that some have several destinations.
+fn relay_entries(random: &mut Random, count: usize) -> Vec<u64> {
+    let apids = [(); 3].map(|_| {
+        let any = random.within(0, 2_046) as u64;
+        random.pick(&[0, 5, 2_031, 2_032, 2_045, 2_046, any, any])
+    });
+    let mut entries: Vec<[u64; 2]> = Vec::new();
+    while entries.len() < count {
+        let any = random.octet().into();
+        let entry = [random.pick(&apids), random.pick(&[0, 1, 255, any, any])];
+        if !entries.contains(&entry) {
+            entries.push(entry);
+        }
+    }
+    entries.concat()
+}
+
+/// A list for a relay table, of up to 40 entries; as it can be loaded, or spoilt in up to two ways.
+pub fn relay_list(random: &mut Random) -> Vec<u64> {
+    let (few, many) = (random.within(1, 12), random.within(13, 40));
+    let count = random.pick(&[0, few, few, few, many, 31, 32, 33]);
+    let mut list = relay_entries(random, count);
+    for _ in 0..random.pick(&[0, 0, 0, 1, 1, 2]) {
+        spoil_relay_list(random, &mut list);
+    }
+    list
+}
+
+fn spoil_relay_list(random: &mut Random, list: &mut Vec<u64>) {
+    if list.len() < 2 {
+        list.push(random.pick(&[0, 5, u64::MAX]));
+        return;
+    }
+    let last = list.len() / 2 - 1;
+    let (any, other) = (random.within(0, last), random.within(0, last));
+    let place = 2 * random.pick(&[any, any, last]);
+    match random.within(1, 7) {
+        1 | 2 => list[place] = no_apid(random, list[place]),
+        3 | 4 => list[place + 1] = no_destination(random, list[place + 1]),
+        5 | 6 => list.copy_within(place..place + 2, 2 * other),
+        // The list ends within an entry.
+        _ => {
+            list.pop();
+        }
+    }
+}
+
+/// An APID that no table has, at times one that looks like this in fewer bits.
+fn no_apid(random: &mut Random, apid: u64) -> u64 {
+    let alike = apid.wrapping_add(random.pick(&[1 << 11, 1 << 16, 1 << 32]));
+    random.pick(&[2_047, 2_048, 65_535, 65_536, u64::MAX, alike, alike])
+}
+
+/// A destination that no table has, at times one that looks like this in fewer bits.
+fn no_destination(random: &mut Random, destination: u64) -> u64 {
+    let alike = destination.wrapping_add(random.pick(&[1 << 8, 1 << 16, 1 << 32]));
+    random.pick(&[256, 257, u64::MAX, alike, alike])
+}
+
+/// Changes a relay table in one way, after which it may still be one.
+pub fn damage_table(random: &mut Random, table: &mut [u64]) {
+    let count = table[0];
+    let used = count.clamp(1, 32) as usize;
+    let (entry, other) = (random.within(0, used - 1), random.within(0, used - 1));
+    let place = 1 + 2 * entry;
+    match random.within(1, 7) {
+        1 => {
+            let (more, less) = (count.wrapping_add(1), count.wrapping_sub(1));
+            table[0] = random.pick(&[more, less, 32, 33, 40, (1 << 32) + count % 33, u64::MAX]);
+        }
+        2 => table[place] = no_apid(random, table[place]),
+        3 => table[place + 1] = no_destination(random, table[place + 1]),
+        4 => table.copy_within(place..place + 2, 1 + 2 * other),
+        // Past the entries, if there is such a place.
+        5 | 6 => {
+            let past = random.within((1 + 2 * used).min(RELAY - 1), RELAY - 1);
+            table[past] = random.pick(&[1, 5, u64::MAX]);
+        }
+        _ => table[place + 1] = random.octet().into(),
+    }
+}
+
+/// A packet for a relay with this table: often a space packet of one of its APIDs, or of one near
+/// it. At times it is not well-formed.
+pub fn relay_packet(random: &mut Random, table: &[u64], limit: usize) -> Vec<u8> {
+    let total = match random.within(1, 10) {
+        1 => random.within(1, 6),
+        2 => limit,
+        3 => limit + 1,
+        _ => limit.min(random.within(7, 24)),
+    };
+    let mut packet = packet_of(random, total.min(65_542));
+    if total >= 7 && !random.once_in(3) {
+        let entry = random.within(0, table[0].clamp(1, 32) as usize - 1);
+        let apid = table[1 + 2 * entry] as u16;
+        make_space(&mut packet, random.pick(&[apid, apid, apid, apid, apid ^ 1, apid ^ 0x100]));
+    }
+    match random.within(1, 16) {
+        1 => packet.push(random.octet()),
+        2 => packet.truncate(random.within(0, packet.len())),
+        3 => packet[0] = random.octet(),
+        4 => {
+            let place = random.within(0, packet.len().min(8) - 1);
+            let any = random.octet();
+            packet[place] = random.pick(&[0, 1, 0xFF, any]);
+        }
+        _ => {}
+    }
+    packet
+}
+
+/// Makes octets a space packet of this APID. The fields that do not count here stay as they are.
+fn make_space(packet: &mut [u8], apid: u16) {
+    let name = u16::from_be_bytes([packet[0], packet[1]]) & 0x1800 | apid & 0x07FF;
+    let field = (packet.len() - 7) as u16;
+    packet[..2].copy_from_slice(&name.to_be_bytes());
+    packet[4..6].copy_from_slice(&field.to_be_bytes());
 }
 
 /// Frames, and the packets they carry, with the idle packets of flushes.

@@ -1,4 +1,5 @@
-//! A reference for the rules of document 01, and the tests that stand on it.
+//! A reference for the rules of document 01 and of the requests of document 02 that have landed, and
+//! the tests that stand on it.
 //!
 //! [`reference`] is the rules written down a second time, in plain Rust. The
 //! rest puts it to use: [`calls`] gives it the shape of the library's C

@@ -14,7 +14,7 @@ pub struct Order {
     pub refusals: &'static [u64],
 }
 
-pub const ORDERS: [Order; 18] = [
+pub const ORDERS: [Order; 20] = [
     Order { call: "read_header", refusals: &[1] },
     Order { call: "well_formed", refusals: &[1] },
     Order { call: "wrap", refusals: &[1, 8, 2] },
@@ -33,18 +33,21 @@ pub const ORDERS: [Order; 18] = [
     Order { call: "judge_close", refusals: &[1, 2, 10] },
     Order { call: "bits_write", refusals: &[1, 2, 10] },
     Order { call: "bits_read", refusals: &[1, 10, 3, 4, 5, 6, 7] },
+    Order { call: "relay_load", refusals: &[1, 12] },
+    Order { call: "relay_route", refusals: &[1, 10, 8, 2] },
 ];
 
 /// The arguments of any of the calls.
 #[derive(Clone, Debug, PartialEq, Eq)]
 pub struct Arguments {
     /// Settings; or a limit, a protocol and an extension; or a space packet's fields; or the
-    /// answer of another call.
+    /// answer of another call; or the entries of a relay table.
     pub numbers: Vec<u64>,
+    /// A record, a relay table among them.
     pub record: Vec<u64>,
     /// What is only read: a frame, a packet, data or bits.
     pub octets: Vec<u8>,
-    /// What may be written: a frame, a packet or the store.
+    /// What may be written: a frame, a packet, the store or destinations.
     pub buffer: Vec<u8>,
     pub answer: Vec<u64>,
 }
@@ -56,6 +59,8 @@ pub fn arguments(call: &str, refusals: &[u64]) -> Arguments {
     let packet = vec![0xEA, 0x00, 0x00, 0x07, 0xA1, 0xA2, 0xA3];
     let channel = vec![66, 3, 10, 64, 0x55];
     let frame = [&[0x50, 0x83, 0, 0, 5, 0, 0, 0][..], &[0xE0; 10]].concat();
+    let table = [&[2, 5, 7, 5, 9][..], &[0; calls::RELAY - 5]].concat();
+    let space = vec![0x00, 0x05, 0xC0, 0x00, 0x00, 0x00, 0xA1];
     let (numbers, record, octets, buffer, answer) = match call {
         "read_header" => (vec![64, 0, 0], vec![], packet, vec![], calls::HEADER),
         "well_formed" => (vec![64, 0, 0], vec![], packet, vec![], calls::FORMED),
@@ -75,6 +80,8 @@ pub fn arguments(call: &str, refusals: &[u64]) -> Arguments {
         "judge_close" => (channel, vec![1, 5, 4, 0], vec![], vec![0; 64], calls::VERDICT),
         "bits_write" => (vec![66, 3, 10, 0x55], vec![5], vec![0xA1; 2], vec![0; 18], 0),
         "bits_read" => (vec![66, 3, 10, 0x55], vec![1, 4], frame, vec![], calls::BITS),
+        "relay_load" => (vec![6, 1, 5, 255], table, vec![], vec![], 0),
+        "relay_route" => (vec![64], table, space, vec![0; 2], calls::ROUTED),
         _ => panic!("no call {call}"),
     };
     let answer = vec![u64::MAX; answer];
@@ -88,8 +95,9 @@ pub fn arguments(call: &str, refusals: &[u64]) -> Arguments {
 fn change(call: &str, refusal: u64, arguments: &mut Arguments) {
     let Arguments { numbers, record, octets, buffer, .. } = arguments;
     match (refusal, call) {
-        (1, "read_header" | "well_formed" | "unwrap") => numbers[0] = 6,
+        (1, "read_header" | "well_formed" | "unwrap" | "relay_route") => numbers[0] = 6,
         (1, "wrap") => numbers[1] = 0,
+        (1, "relay_load") => numbers[3] = 256,
         (1, "write_space") => numbers[0] = 1,
         (1, _) => numbers[1] = 63,
         (2, _) => {
@@ -103,6 +111,7 @@ fn change(call: &str, refusal: u64, arguments: &mut Arguments) {
         (9, "extractor_enter") => record[0] = 3,
         (9, _) => record[0] = 2,
         (11, _) => record[1] = TOO_GREAT,
+        (12, _) => numbers[0] = 2_047,
         (3, _) => octets.push(0),
         (4, _) => octets[0] ^= 0x80,
         (5, _) => octets[1] ^= 0x01,
@@ -111,7 +120,7 @@ fn change(call: &str, refusal: u64, arguments: &mut Arguments) {
         (6, _) => octets[6] |= 0x40,
         (7, "extractor_enter") => octets[7] = 10,
         (7, _) => octets[7] = 79,
-        (8, "mux_put" | "unwrap") => octets.push(0),
+        (8, "mux_put" | "unwrap" | "relay_route") => octets.push(0),
         (8, "read_space") => octets[0] = 0x20,
         (8, _) => octets.clear(),
         _ => panic!("{call} never gives {refusal}"),
@@ -140,6 +149,8 @@ pub fn make(calls: &dyn Calls, call: &str, arguments: &mut Arguments) -> u64 {
         "judge_close" => calls.judge_close(numbers, record, buffer, answer),
         "bits_write" => calls.bits_write(numbers, record, octets, 13, buffer),
         "bits_read" => calls.bits_read(numbers, record, octets, answer),
+        "relay_load" => calls.relay_load(numbers, record),
+        "relay_route" => calls.relay_route(numbers[0], record, octets, buffer, answer),
         _ => panic!("no call {call}"),
     }
 }

@@ -1,4 +1,5 @@
-//! Document 01 in Rust: one virtual channel of an AOS link.
+//! Document 01 in Rust, one virtual channel of an AOS link, and of document 02's requests those that
+//! have landed.
 //!
 //! Every call takes the settings, the record and the buffers it needs, checks
 //! them in the order that its own comment states, and answers or refuses. A
@@ -10,6 +11,7 @@ pub mod frame;
 pub mod judge;
 pub mod multiplexer;
 pub mod packet;
+pub mod relay;
 pub mod runfile;
 pub mod space;
 pub mod wrap;
@@ -39,10 +41,12 @@ pub enum Refusal {
     Record = 10,
     /// A frame beyond the judge's last.
     Beyond = 11,
+    /// Too many entries for a relay table, an APID past those of it, or a pair twice.
+    Table = 12,
 }
 
 impl Refusal {
-    /// The number of document 01's table.
+    /// The number of document 01's table, or of the request that added it.
     pub fn number(self) -> u64 {
         self as u64
     }

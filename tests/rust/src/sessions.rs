@@ -7,12 +7,14 @@
 use std::collections::BTreeMap;
 use std::fmt;
 
-use crate::calls::{self, Calls};
+use crate::calls::{self, Calls, Reference};
 use crate::generate;
 use crate::orders::{self, Arguments, ORDERS};
 use crate::random::Random;
 use crate::reference::bitstream::octets_for;
 use crate::reference::frame::{Settings, HEAD, WHEEL};
+use crate::reference::packet::LIMITS;
+use crate::reference::relay::MOST_ENTRIES;
 
 /// What the calls have met: how often each call gave each refusal, 0 being none,
 /// and how often other things were said.
@@ -125,7 +127,7 @@ pub fn session(first: &dyn Calls, second: &dyn Calls, seed: u64) -> Result<Tally
     let mut pair = Pair { first, second, index: 0, tally: Tally::default() };
     let mut random = Random::new(seed);
     let random = &mut random;
-    match random.within(1, 100) {
+    match random.within(1, 106) {
         1..=7 => headers(&mut pair, random),
         8..=10 => space_headers(&mut pair, random),
         11..=20 => wrapping(&mut pair, random),
@@ -133,8 +135,9 @@ pub fn session(first: &dyn Calls, second: &dyn Calls, seed: u64) -> Result<Tally
         39..=68 => extracting(&mut pair, random),
         69..=83 => judging(&mut pair, random),
         84..=93 => bits(&mut pair, random),
-        94..=97 => any_record(&mut pair, random),
-        98 => short_arrays(&mut pair, random),
+        94..=99 => relaying(&mut pair, random),
+        100..=103 => any_record(&mut pair, random),
+        104 => short_arrays(&mut pair, random),
         _ => several_refusals(&mut pair, random),
     }?;
     Ok(pair.tally)
@@ -655,6 +658,64 @@ fn bits(pair: &mut Pair, random: &mut Random) -> Result<(), Difference> {
     Ok(())
 }
 
+/// Loads of a table, which is empty at first or nothing that is one, and packets routed by it.
+fn relaying(pair: &mut Pair, random: &mut Random) -> Result<(), Difference> {
+    let mut record = answer(random, calls::RELAY);
+    if !random.once_in(6) {
+        record[..calls::RELAY].fill(0);
+    }
+    let mut lent = Lent { record, buffer: vec![], answer: vec![] };
+    for _ in 0..random.within(1, 6) {
+        load(pair, &mut lent, &generate::relay_list(random))?;
+        for _ in 0..random.within(1, 8) {
+            let whole = lent.record.clone();
+            if random.once_in(4) {
+                // The table changes behind the relay's back.
+                generate::damage_table(random, &mut lent.record);
+            }
+            route(pair, random, &mut lent)?;
+            lent.record = whole;
+        }
+    }
+    Ok(())
+}
+
+fn load(pair: &mut Pair, lent: &mut Lent, list: &[u64]) -> Result<(), Difference> {
+    lent.buffer = vec![];
+    lent.answer = vec![];
+    pair.both("relay_load", list, &[], lent, |calls, lent| {
+        calls.relay_load(list, &mut lent.record)
+    })?;
+    Ok(())
+}
+
+/// Routes some packet by the table in the record.
+fn route(pair: &mut Pair, random: &mut Random, lent: &mut Lent) -> Result<(), Difference> {
+    let limit = some_limit(random);
+    let near = limit.clamp(7, 65_542) as usize;
+    let packet = generate::relay_packet(random, &lent.record, near);
+    let size = room(random, destinations(&lent.record, &packet));
+    lent.buffer = random.octets(size);
+    lent.answer = answer(random, calls::ROUTED);
+    let refusal = pair.both("relay_route", &[limit], &packet, lent, |calls, lent| {
+        calls.relay_route(limit, &lent.record, &packet, &mut lent.buffer, &mut lent.answer)
+    })?;
+    if refusal == 0 {
+        pair.note("routed", lent.answer[0]);
+        // Two stand for all that are several.
+        pair.note("destinations", lent.answer[1].min(2));
+    }
+    Ok(())
+}
+
+/// How many destinations the reference has for a packet, 0 where it refuses it.
+fn destinations(table: &[u64], packet: &[u8]) -> usize {
+    let mut routed = [0; calls::ROUTED];
+    let limit = *LIMITS.end() as u64;
+    Reference.relay_route(limit, table, packet, &mut [0; MOST_ENTRIES], &mut routed);
+    routed[1] as usize
+}
+
 /// Single calls on records and stores of any kind, and what follows from them.
 fn any_record(pair: &mut Pair, random: &mut Random) -> Result<(), Difference> {
     let settings = generate::settings(random);
@@ -723,7 +784,9 @@ fn short_arrays(pair: &mut Pair, random: &mut Random) -> Result<(), Difference> 
     let cut = |random: &mut Random, numbers: &[u64], short: bool| {
         let mut numbers = numbers.to_vec();
         if short {
-            numbers.truncate(random.within(0, numbers.len() - 1));
+            let most = numbers.len() - 1;
+            let fewer = random.within(0, most);
+            numbers.truncate(random.pick(&[fewer, most]));
         } else if random.once_in(3) {
             numbers.extend([JUNK, 0]);
         }
@@ -842,6 +905,16 @@ fn short_arrays(pair: &mut Pair, random: &mut Random) -> Result<(), Difference> 
         let (numbers, mut lent) = all(random, &bit_settings, &[0, 0], calls::BITS);
         pair.both("bits_read", &numbers, &frame, &mut lent, |calls, lent| {
             calls.bits_read(&numbers, &mut lent.record, &frame, &mut lent.answer)
+        })?;
+
+        let (list, mut lent) = all(random, &[5, 7, 5, 9], &[JUNK; calls::RELAY], 0);
+        pair.both("relay_load", &list, &[], &mut lent, |calls, lent| {
+            calls.relay_load(&list, &mut lent.record)
+        })?;
+        let (_, mut lent) = all(random, &channel, &[0; calls::RELAY], calls::ROUTED);
+        lent.buffer = frame.clone();
+        pair.both("relay_route", &[limit], &packet, &mut lent, |calls, lent| {
+            calls.relay_route(limit, &lent.record, &packet, &mut lent.buffer, &mut lent.answer)
         })?;
     }
     Ok(())

@@ -38,6 +38,8 @@ fn the_reference_agrees_with_itself_and_everything_is_met() {
         ("shown in", 0..=2),
         ("verdict", 1..=2),
         ("loss flag", 0..=1),
+        ("routed", 1..=2),
+        ("destinations", 0..=2),
     ] {
         for number in numbers {
             assert!(tally.said.contains_key(&(what, number)), "{what} {number}");
@@ -274,6 +276,63 @@ fn a_reader_of_bits_that_never_sees_a_loss() {
         }
     });
     assert_eq!(call, "bits_read");
+}
+
+#[test]
+fn a_relay_that_finds_no_path() {
+    let call = seen(|_, lent, outcome| {
+        if outcome.call == "relay_route" && *outcome.refusal == 0 {
+            outcome.answer[..2].copy_from_slice(&[1, 0]);
+            outcome.buffer.copy_from_slice(lent);
+        }
+    });
+    assert_eq!(call, "relay_route");
+}
+
+#[test]
+fn a_relay_that_turns_the_order_round() {
+    let call = seen(|_, _, outcome| {
+        if outcome.call == "relay_route" && *outcome.refusal == 0 {
+            let count = outcome.answer[1] as usize;
+            outcome.buffer[..count].reverse();
+        }
+    });
+    assert_eq!(call, "relay_route");
+}
+
+#[test]
+fn a_relay_that_writes_past_the_destinations() {
+    let call = seen(|_, lent, outcome| {
+        if outcome.call == "relay_route" && *outcome.refusal == 0 {
+            let count = outcome.answer[1] as usize;
+            if count < lent.len() {
+                outcome.buffer[count] = !lent[count];
+            }
+        }
+    });
+    assert_eq!(call, "relay_route");
+}
+
+/// A table that is only written as far as its entries go keeps some of the one before.
+#[test]
+fn a_load_that_leaves_what_is_behind_the_entries() {
+    let call = seen(|_, _, outcome| {
+        if outcome.call == "relay_load" && *outcome.refusal == 0 && outcome.answer[0] < 32 {
+            outcome.answer[64] = 5;
+        }
+    });
+    assert_eq!(call, "relay_load");
+}
+
+#[test]
+fn a_relay_that_goes_by_any_table() {
+    let call = seen(|_, _, outcome| {
+        if outcome.call == "relay_route" && *outcome.refusal == 10 {
+            *outcome.refusal = 0;
+            outcome.answer[..2].copy_from_slice(&[1, 0]);
+        }
+    });
+    assert_eq!(call, "relay_route");
 }
 
 #[test]
