@@ -10,8 +10,10 @@ A face on the proved library: what has to be remembered between calls is kept he
             print(event)
     print(judge(settings, frames))
 
-An extractor, a judge, a multiplexer, a reader or a writer of bits is used by one thread at a time; different ones may be used at the
-same time.
+A `RelayTable` says where the packets go from there.
+
+An extractor, a judge, a multiplexer, a reader or a writer of bits or a relay table is used by one thread at a time; different ones may
+be used at the same time.
 """
 
 from ._library import Refusal, Refused
@@ -21,6 +23,7 @@ from .extractor import Damaged, Entered, Event, Extractor, Packet, Reason
 from .judge import Judge, Verdict, judge
 from .multiplexer import Multiplexer, multiplex
 from .packets import Front, Header, SpaceHeader, Unwrapped, read_header, unwrap, well_formed, wrap
+from .relay import RelayTable
 
 __all__ = [
     "BitReader",
@@ -39,6 +42,7 @@ __all__ = [
     "Reason",
     "Refusal",
     "Refused",
+    "RelayTable",
     "Settings",
     "SpaceHeader",
     "Unwrapped",

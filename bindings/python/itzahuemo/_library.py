@@ -25,6 +25,7 @@ class Refusal(enum.IntEnum):
     MOMENT = 9
     RECORD = 10
     LAST = 11
+    TABLE = 12
 
 
 _WHY = {
@@ -39,6 +40,7 @@ _WHY = {
     Refusal.MOMENT: "the wrong moment for this call",
     Refusal.RECORD: "the record or the held octets cannot have been left by a call",
     Refusal.LAST: "a frame beyond the judge's last",
+    Refusal.TABLE: "more than 32 relay entries, an APID above 2,046, or two the same",
 }
 
 
@@ -71,6 +73,8 @@ _CALLS = {
     "judge_close": "aaoA",
     "bits_write": "aAonO",
     "bits_read": "aAoA",
+    "relay_load": "aA",
+    "relay_route": "naoOA",
 }
 
 _OCTETS: list[Any] = [ctypes.POINTER(ctypes.c_uint8), ctypes.c_size_t]

@@ -19,6 +19,7 @@ from itzahuemo import (
     Reason,
     Refusal,
     Refused,
+    RelayTable,
     Settings,
     SpaceHeader,
     Unwrapped,
@@ -185,6 +186,37 @@ class Calls(unittest.TestCase):
         self.assertEqual(none[6:8], b"\x3f\xfe")
         self.assertEqual(list(reader.read(none)), [])
 
+    def test_relay_tables(self) -> None:
+        many = [(apid, 1) for apid in range(33)]
+        table = RelayTable(many[:32])
+        beyond = bytes.fromhex("0020C0000001AABB")
+        for refusal, wrong in [
+            (Refusal.TABLE, many),
+            (Refusal.TABLE, [(2047, 1)]),
+            (Refusal.TABLE, [(5, 7), (6, 7), (5, 7)]),
+            (Refusal.SETTING, [(5, 256)]),
+            (Refusal.SETTING, [(2047, 1), (5, 256)]),
+            (Refusal.SETTING, [(5, -1)]),
+        ]:
+            self.refused(refusal, table.load, wrong)
+            self.refused(refusal, RelayTable, wrong)
+            self.assertEqual(table.route(LIMIT, SPACE), [1])
+        table.load([(32, 255), (2046, 0)])
+        self.assertEqual(table.route(LIMIT, SPACE), [])
+        self.assertEqual(table.route(LIMIT, beyond), [255])
+        table.load([])
+        self.assertEqual(table.route(LIMIT, beyond), [])
+
+    def test_routing(self) -> None:
+        self.assertEqual(RelayTable().route(LIMIT, SPACE), [])
+        table = RelayTable([(5, 7), (6, 1), (5, 2)])
+        self.assertEqual(table.route(LIMIT, SPACE), [7, 2])
+        for packet in [ENCAPSULATION, bytes.fromhex("07FFC000000000"), b"\xe0"]:
+            self.assertEqual(table.route(LIMIT, packet), [])
+        self.refused(Refusal.PACKET, table.route, LIMIT, SPACE[:7])
+        self.refused(Refusal.PACKET, table.route, LIMIT, b"\xe9\x01")
+        self.refused(Refusal.SETTING, table.route, 6, SPACE)
+
     def test_what_is_no_octets(self) -> None:
         """A packet or a frame in place of a list of them is a row of numbers."""
         calls: list[tuple[Callable[..., Any], Any, Any]] = [
@@ -200,7 +232,7 @@ class Calls(unittest.TestCase):
 
     def test_refusals(self) -> None:
         self.assertEqual(str(Refused(Refusal.POINTER)), "refused 7: the frame's pointer is one that cannot be")
-        names = "SETTING ROOM LENGTH VERSION CHANNEL SPARE POINTER PACKET MOMENT RECORD LAST"
-        self.assertEqual([Refusal(number).name for number in range(1, 12)], names.split())
+        names = "SETTING ROOM LENGTH VERSION CHANNEL SPARE POINTER PACKET MOMENT RECORD LAST TABLE"
+        self.assertEqual([Refusal(number).name for number in range(1, 13)], names.split())
         for refusal in Refusal:
             self.assertIn(f"refused {int(refusal)}: ", str(Refused(refusal)))

@@ -13,6 +13,7 @@ pub(crate) const STEP_DAMAGED: u64 = 3;
 pub(crate) const STEP_SPENT: u64 = 4;
 pub(crate) const IN_FRAME: u64 = 1;
 pub(crate) const PASS: u64 = 1;
+pub(crate) const NO_PATH: u64 = 1;
 
 /// The part of a slice that a call answered by its start and length.
 pub(crate) fn part(octets: &[u8], start: u64, length: u64) -> &[u8] {
@@ -193,6 +194,25 @@ extern "C" {
         record_len: usize,
         frame: *const u8,
         frame_len: usize,
+        answer: *mut u64,
+        answer_len: usize,
+    ) -> u64;
+
+    fn itz_relay_load(
+        entries: *const u64,
+        entries_len: usize,
+        table: *mut u64,
+        table_len: usize,
+    ) -> u64;
+
+    fn itz_relay_route(
+        limit: u64,
+        table: *const u64,
+        table_len: usize,
+        packet: *const u8,
+        packet_len: usize,
+        destinations: *mut u8,
+        destinations_len: usize,
         answer: *mut u64,
         answer_len: usize,
     ) -> u64;
@@ -458,6 +478,32 @@ pub(crate) fn bits_read(
             record.len(),
             frame.as_ptr(),
             frame.len(),
+            answer.as_mut_ptr(),
+            answer.len(),
+        )
+    }
+}
+
+pub(crate) fn relay_load(entries: &[u64], table: &mut [u64]) -> u64 {
+    unsafe { itz_relay_load(entries.as_ptr(), entries.len(), table.as_mut_ptr(), table.len()) }
+}
+
+pub(crate) fn relay_route(
+    limit: u64,
+    table: &[u64],
+    packet: &[u8],
+    destinations: &mut [u8],
+    answer: &mut [u64],
+) -> u64 {
+    unsafe {
+        itz_relay_route(
+            limit,
+            table.as_ptr(),
+            table.len(),
+            packet.as_ptr(),
+            packet.len(),
+            destinations.as_mut_ptr(),
+            destinations.len(),
             answer.as_mut_ptr(),
             answer.len(),
         )

@@ -6,6 +6,8 @@
 //! ```
 #![doc = include_str!("../examples/sample.rs")]
 //! ```
+//!
+//! A table of [`relay`] says where the packets go from there.
 #![warn(missing_docs)]
 
 mod bits;
@@ -15,6 +17,7 @@ mod judge;
 mod multiplexer;
 mod packet;
 mod refusal;
+pub mod relay;
 mod settings;
 mod space;
 

@@ -26,10 +26,12 @@ pub enum Refusal {
     Record = 10,
     /// A frame beyond the judge's last.
     Last = 11,
+    /// The entries make no relay table: they are more than 32, or one has an APID above 2,046, or two are the same.
+    Table = 12,
 }
 
 impl Refusal {
-    const ALL: [Refusal; 11] = [
+    const ALL: [Refusal; 12] = [
         Refusal::Setting,
         Refusal::Room,
         Refusal::Length,
@@ -41,9 +43,10 @@ impl Refusal {
         Refusal::Moment,
         Refusal::Record,
         Refusal::Last,
+        Refusal::Table,
     ];
 
-    /// Its number, 1 to 11, as `aosread` prints it.
+    /// Its number, 1 to 12, as `aosread` prints it.
     pub fn number(self) -> u64 {
         self as u64
     }
@@ -74,6 +77,7 @@ impl fmt::Display for Refusal {
             Refusal::Moment => "the wrong moment for this call",
             Refusal::Record => "the record or the held octets cannot have been left by a call",
             Refusal::Last => "a frame beyond the judge's last",
+            Refusal::Table => "more than 32 relay entries, an APID above 2,046, or two the same",
         };
         write!(f, "refused {}: {why}", self.number())
     }

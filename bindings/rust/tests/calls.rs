@@ -2,6 +2,7 @@
 
 use std::borrow::Cow;
 
+use itzahuemo::relay::{Entry, Route, Table, MOST_ENTRIES};
 use itzahuemo::*;
 
 const SPACE: [u8; 8] = [0x00, 0x05, 0xC0, 0x00, 0x00, 0x01, 0xAA, 0xBB];
@@ -219,12 +220,51 @@ fn bits_go_round() {
     assert_eq!(reader.read(&none).unwrap().iter().count(), 0);
 }
 
+fn entries(pairs: &[(u16, u8)]) -> Vec<Entry> {
+    pairs.iter().map(|&(apid, destination)| Entry { apid, destination }).collect()
+}
+
+#[test]
+fn tables_are_loaded() {
+    let mut table = Table::empty();
+    let many: Vec<Entry> = (0..33).map(|apid| Entry { apid, destination: 1 }).collect();
+    assert_eq!(table.load(&many[..MOST_ENTRIES]), Ok(()));
+    let full = table.clone();
+    for wrong in [many, entries(&[(2_047, 1)]), entries(&[(5, 7), (6, 7), (5, 7)])] {
+        assert_eq!(table.load(&wrong), Err(Refusal::Table));
+        assert_eq!(table, full);
+    }
+    assert_eq!(table.load(&entries(&[(2_046, 255), (0, 0), (0, 255)])), Ok(()));
+    assert_ne!(table, full);
+    assert_eq!(table.load(&[]), Ok(()));
+    assert_eq!(table, Table::default());
+}
+
+#[test]
+fn packets_are_routed() {
+    let mut table = Table::empty();
+    assert_eq!(table.route(LIMIT, &SPACE, &mut []), Ok(Route::NoPath));
+    table.load(&entries(&[(5, 7), (6, 1), (5, 2)])).unwrap();
+    let mut destinations = [0x55; MOST_ENTRIES];
+    assert_eq!(table.route(LIMIT, &SPACE, &mut destinations), Ok(Route::Path(&[7, 2])));
+    assert_eq!(destinations[..3], [7, 2, 0x55]);
+    let idle = [0x07, 0xFF, 0xC0, 0x00, 0x00, 0x00, 0x00];
+    for packet in [&ENCAPSULATION[..], &idle, &[0xE0]] {
+        assert_eq!(table.route(LIMIT, packet, &mut []), Ok(Route::NoPath));
+    }
+    assert_eq!(table.route(LIMIT, &SPACE, &mut [0]), Err(Refusal::Room));
+    assert_eq!(table.route(LIMIT, &SPACE[..7], &mut destinations), Err(Refusal::Packet));
+    assert_eq!(table.route(LIMIT, &[0xE9, 0x01], &mut destinations), Err(Refusal::Packet));
+    assert_eq!(table.route(6, &SPACE, &mut destinations), Err(Refusal::Setting));
+    assert_eq!(destinations[..3], [7, 2, 0x55]);
+}
+
 #[test]
 fn refusals_say_why() {
     assert_eq!(Refusal::Pointer.number(), 7);
     assert_eq!(Refusal::Record.number(), 10);
     let said = Refusal::Pointer.to_string();
     assert_eq!(said, "refused 7: the frame's pointer is one that cannot be");
-    let error: Box<dyn std::error::Error + Send + Sync> = Refusal::Last.into();
-    assert!(error.to_string().starts_with("refused 11: "));
+    let error: Box<dyn std::error::Error + Send + Sync> = Refusal::Table.into();
+    assert!(error.to_string().starts_with("refused 12: "));
 }
