@@ -5,6 +5,7 @@ mod Leaving
 mod Muxes
 mod Extractors
 mod Judges
+mod Relays
 mod Bitstreams
 pub mod Theorems
 pub mod Zeros

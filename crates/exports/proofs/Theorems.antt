@@ -1,9 +1,9 @@
 -- The statements of `specs/Statements.antt`.
 -- Assumes nothing.
 use mathlib.Core.Path.{_≡_, refl, sym, ap, _∙_}
-use mathlib.Core.List.{List, [], _∷_}
+use mathlib.Core.List.{List, [], _∷_, _++_}
 use mathlib.Core.Bool.{Bool, true, false}
-use Prim.Native.Nat.{ℕ, _+_, _≤_, min}
+use Prim.Native.Nat.{ℕ, suc, _+_, _≤_, min}
 use native.Mathlib.Omega.{arith}
 use lib.ListN.{length, take, drop}
 use lib.Dec.{leb}
@@ -22,6 +22,8 @@ use Rattle.judge.specs.declared.Judge.the-variants.{Open, Sound, Faulty}
 use Rattle.bitstream.specs.declared.Writer.{Writer}
 use Rattle.bitstream.specs.declared.Reader.{Reader}
 use Rattle.bitstream.specs.declared.Reader.the-variants as reader
+use Rattle.relay.specs.declared.Entry.{Entry}
+use Rattle.relay.specs.declared.Table.{Table}
 use Rattle.arrays.specs.Arrays.{told}
 use Rattle.exports.specs.Left.{Left}
 use Rattle.exports.specs.Packet.{unwrap-numbers, unit-numbers}
@@ -29,7 +31,9 @@ use Rattle.exports.specs.Mux.{mux-of, mux-numbers}
 use Rattle.exports.specs.Extract.{extractor-with, extractor-of, extractor-numbers, step-numbers, part-numbers, show-numbers}
 use Rattle.exports.specs.Judging.{judge-with, judge-of, judge-numbers}
 use Rattle.exports.specs.Bits.{writer-of, reader-with, reader-of, reader-numbers}
-use Rattle.exports.specs.Statements.{Determined, Word, ExtractorWords, JudgeWords, ReaderWords, StatedAgain, unit-named, part-named, PartsNamed}
+use Rattle.exports.specs.Relaying.{entries-of, table-of, entry-numbers, table-numbers}
+use Rattle.exports.proofs.Relays.{numbers-long, entries-again}
+use Rattle.exports.specs.Statements.{Determined, Word, ExtractorWords, JudgeWords, ReaderWords, TableWords, StatedAgain, unit-named, part-named, PartsNamed}
 
 same-parts : {x y : Left} → x ≡ y → ((x .refusal ≡ y .refusal) × (x .numbers ≡ y .numbers)) × ((x .octets ≡ y .octets) × (x .answer ≡ y .answer))
 same-parts e = (
@@ -94,8 +98,24 @@ module _ (array : List ℕ) where
   reader-again reader.Fresh h w = rw (laid-there (0 ∷ 0 ∷ []) h) refl
   reader-again (reader.Last count) h w = rw (laid-there (1 ∷ count ∷ []) h, uncut w) refl
 
+  table-again : (t : Table) → 65 ≤ length array → TableWords t → table-of (told array (table-numbers t)) ≡ t
+  unfolding table-of table-numbers over
+  table-again t h w =
+      let long : length (table-numbers t) ≡ 65 = ap suc (numbers-long (t .entries)) ∙ omega (arith, w .0) in
+      let rest : List ℕ = drop (0 + length (table-numbers t)) array in
+      let entries : entries-of 32 (entry-numbers (t .entries) ++ rest) ≡ t .entries =
+      ap (λ (k : ℕ). entries-of k (entry-numbers (t .entries) ++ rest)) (sym (w .0)) ∙ entries-again (t .entries) rest (w .1) in
+      rw (laid-there (table-numbers t) (omega arith)) (ap (λ (es : List Entry). record { count = t .count; entries = es }) entries)
+
   pub stated-again : StatedAgain array
-  stated-again = record { mux = mux-again; extractor = extractor-again; judge = judge-again; writer = writer-again; reader = reader-again }
+  stated-again = record {
+    mux = mux-again;
+    extractor = extractor-again;
+    judge = judge-again;
+    writer = writer-again;
+    reader = reader-again;
+    table = table-again;
+  }
 
   unit-named-by : (u : Unwrapped) (packet : List ℕ) → 4 ≤ length array
       → unit-named packet (unit-numbers (told array (unwrap-numbers (unwraps u))) packet) ≡ unit-part packet u

@@ -25,10 +25,14 @@ use Rattle.judge.specs.Judge.{Verdict, pass, fault}
 use Rattle.judge.specs.Calls.{close-rows, judge-close, closes-with, close-says, close-call}
 use Rattle.judge.specs.declared.Judge.{Judge}
 use Rattle.judge.specs.declared.Closed.{Closed}
+use Rattle.relay.specs.Table.{entries-of}
+use Rattle.relay.specs.Route.{path, route-rows, refused, written, routing}
+use Rattle.relay.specs.declared.Table.{Table}
 use Rattle.exports.specs.Packet.{header-numbers, formed-numbers}
 use Rattle.exports.specs.Mux.{flush-numbers}
 use Rattle.exports.specs.Extract.{enter-numbers, step-numbers}
 use Rattle.exports.specs.Judging.{close-numbers}
+use Rattle.exports.specs.Relaying.{route-numbers}
 use Rattle.exports.specs.Statements.{all-zero, told-apart, ZeroIsRefused}
 
 -- a refusal with zeros behind it
@@ -153,6 +157,24 @@ close-told : (s : Settings) (j : Judge) (store : List ℕ)
 unfolding close-call
 close-told s j store = close-by _ (first (close-rows s store j)) refl (judge-close j)
 
+-- ---- the relay
+
+written-told : (ds output : List ℕ) → told-apart (written ds output .refusal) (route-numbers (written ds output)) ≡ true
+unfolding written route-numbers told-apart
+written-told [] output = refl
+written-told (d ∷ ds) output = refl
+
+route-by : (b : Bool) (n : ℕ) → eqb n 0 ≡ b → (ds output : List ℕ)
+    → told-apart (pick b (written ds output) (refused n output) .refusal) (route-numbers (pick b (written ds output) (refused n output))) ≡ true
+unfolding route-numbers all-zero
+route-by true n e ds output = written-told ds output
+route-by false n e ds output = refused-told n (0 ∷ 0 ∷ []) e refl
+
+route-told : (limit : ℕ) (t : Table) (p output : List ℕ)
+    → told-apart (routing limit t p output .refusal) (route-numbers (routing limit t p output)) ≡ true
+unfolding routing
+route-told limit t p output = route-by _ (first (route-rows limit t p (length output))) refl (path (entries-of t) p) output
+
 pub zero-is-refused : ZeroIsRefused
 zero-is-refused =
-    record { header = header-told; formed = formed-told; flush = flush-told; enter = enter-told; step = step-told; close = close-told }
+    record { header = header-told; formed = formed-told; flush = flush-told; enter = enter-told; step = step-told; close = close-told; route = route-told }

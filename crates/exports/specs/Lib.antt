@@ -6,4 +6,5 @@ pub mod Mux
 pub mod Extract
 pub mod Judging
 pub mod Bits
+pub mod Relaying
 pub mod Statements

@@ -5,7 +5,7 @@ use mathlib.Core.List.{List, [], _∷_}
 use mathlib.Core.Bool.{Bool, true, not}
 use lib.ListN.{length, getD, take, drop}
 use lib.Dec.{eqb}
-use Rattle.octets.specs.Basics.{pick, and}
+use Rattle.octets.specs.Basics.{pick, and, All}
 use Rattle.frames.specs.declared.Settings.{Settings}
 use Rattle.packets.specs.Header.{reading}
 use Rattle.packets.specs.Packet.{limit-in-range}
@@ -24,6 +24,8 @@ use Rattle.judge.specs.declared.Judge.the-variants.{Open, Sound, Faulty}
 use Rattle.bitstream.specs.declared.Writer.{Writer}
 use Rattle.bitstream.specs.declared.Reader.{Reader}
 use Rattle.bitstream.specs.declared.Reader.the-variants as reader
+use Rattle.relay.specs.Route.{routing}
+use Rattle.relay.specs.declared.Table.{Table}
 use Rattle.arrays.specs.Arrays.{told}
 use Rattle.exports.specs.Left.{Left, left}
 use Rattle.exports.specs.Packet.{header-numbers, formed-numbers, unwrap-numbers, unit-numbers}
@@ -31,6 +33,7 @@ use Rattle.exports.specs.Mux.{mux-of, mux-numbers, flush-numbers}
 use Rattle.exports.specs.Extract.{extractor-of, extractor-numbers, enter-numbers, step-numbers, show-numbers}
 use Rattle.exports.specs.Judging.{judge-of, judge-numbers, close-numbers}
 use Rattle.exports.specs.Bits.{writer-of, reader-of, reader-numbers}
+use Rattle.exports.specs.Relaying.{table-of, table-numbers, route-numbers}
 
 -- a promise says what `left` is: two outcomes that meet it are the same
 pub record Determined : Type 0 where
@@ -57,6 +60,10 @@ abbrev pub ReaderWords : Reader → Type 0
 ReaderWords reader.Fresh = Unit {0}
 ReaderWords (reader.Last count) = Word count
 
+-- a table's entries, each an APID of 16 bits and a destination of 8
+abbrev pub TableWords : Table → Type 0
+TableWords t = (length (t .entries) ≡ 32) × All (λ e. (e .apid ≤ 65535) × (e .destination ≤ 255)) (t .entries)
+
 -- what is laid into a record's array states the record again: a call goes on from what the one before it left
 pub record StatedAgain (array : List ℕ) : Type 0 where
   pub mux : (m : Mux) → 4 ≤ length array → Word (m .count) → mux-of (told array (mux-numbers m)) ≡ m
@@ -64,6 +71,7 @@ pub record StatedAgain (array : List ℕ) : Type 0 where
   pub judge : (j : Judge) → 4 ≤ length array → JudgeWords j → judge-of (told array (judge-numbers j)) ≡ j
   pub writer : (w : Writer) → 1 ≤ length array → Word (w .count) → writer-of (told array (w .count ∷ [])) ≡ w
   pub reader : (x : Reader) → 2 ≤ length array → ReaderWords x → reader-of (told array (reader-numbers x)) ≡ x
+  pub table : (t : Table) → 65 ≤ length array → TableWords t → table-of (told array (table-numbers t)) ≡ t
 
 -- the octets of a packet that a start and a size name
 abbrev pub unit-named : List ℕ → List ℕ → List ℕ
@@ -102,3 +110,5 @@ pub record ZeroIsRefused : Type 0 where
       → told-apart (step-answer s x store frame .answer .refusal) (step-numbers (step-answer s x store frame .answer)) ≡ true
   pub close : (s : Settings) (j : Judge) (store : List ℕ)
       → told-apart (close-call s store j .refusal) (close-numbers (close-call s store j)) ≡ true
+  pub route : (limit : ℕ) (t : Table) (p output : List ℕ)
+      → told-apart (routing limit t p output .refusal) (route-numbers (routing limit t p output)) ≡ true

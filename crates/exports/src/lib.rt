@@ -6,6 +6,7 @@ mod judging;
 mod lent;
 mod mux;
 mod packet;
+mod relaying;
 mod spaces;
 
 pub use bits::itz_bits_read;
@@ -24,5 +25,7 @@ pub use packet::itz_unit_part;
 pub use packet::itz_unwrap;
 pub use packet::itz_well_formed;
 pub use packet::itz_wrap;
+pub use relaying::itz_relay_load;
+pub use relaying::itz_relay_route;
 pub use spaces::itz_read_space;
 pub use spaces::itz_write_space;
