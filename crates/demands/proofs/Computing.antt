@@ -7,6 +7,10 @@ use Rattle.packets.specs.Header.{told, reading, version-of, answer}
 use Rattle.wrapping.specs.Front.{first-octet, second-octet, front}
 use Rattle.wrapping.specs.Idle.{idle-header, idle-packet, idle-packet-rows}
 use Rattle.wrapping.specs.Wrap.{length-of-length-for, wrapped-total, wrapped, wrap-in-range, wrap-rows, wrapping, wraps}
+use Rattle.relay.specs.Table.{same, twice, above, unfit, load-rows, table-of, loading, clear, is-table}
+use Rattle.relay.specs.Table as tables
+use Rattle.relay.specs.Route.{destinations, path, route-rows, routing, routes}
+use Rattle.relay.specs.Route as relay
 use Rattle.packets.specs.Unwrap.{extension-of, reserved-of, unwrap-rows, unwrapping, unwraps, unit-part}
 use Rattle.space.specs.Space.{space-fields, space-word, space-in-range, space-read-rows, space-reading, space-reads, space-rows, space-writing}
 use Rattle.frames.specs.Link.{link-in-range, primary, zone-head, header-rows, written-rows, head-word, headers, count-width, next-count, missing}
@@ -32,11 +36,17 @@ use Rattle.exports.specs.Spaces.{space-numbers, read-space-leaves, header-of, w
 use Rattle.exports.specs.Mux.{mux-numbers, mux-of, begin-leaves, put-numbers, flush-numbers, mux-leaves}
 use Rattle.exports.specs.Extract.{extractor-numbers, extractor-with, enter-numbers, enter-leaves, step-numbers, step-leaves, part-numbers, show-numbers, show-leaves}
 use Rattle.exports.specs.Judging.{judge-numbers, judge-with, judge-leaves, close-numbers, close-leaves}
+use Rattle.exports.specs.Relaying.{entry-of, entry-numbers, table-numbers, wide, load-leaves, route-numbers, route-leaves}
+use Rattle.exports.specs.Relaying as relaying
 use Rattle.exports.specs.Bits.{bits-short, bit-settings-of, writer-of, write-leaves, reader-numbers, reader-with, read-numbers, read-leaves}
 
 unfoldable pub packets : Unit {0}
 unfolding number-from number octets field join placed part over first number-at part-of laid laid-part limit-in-range sized counted space header-length encapsulation look states well-formed is-idle key-of size-of told reading version-of answer first-octet second-octet front idle-header idle-packet idle-packet-rows length-of-length-for wrapped-total wrapped wrap-in-range wrap-rows wrapping wraps extension-of reserved-of unwrap-rows unwrapping unwraps unit-part space-fields space-word space-in-range space-read-rows space-reading space-reads space-rows space-writing
 packets = tt
+
+unfoldable pub relays : Unit {0}
+unfolding packets same tables.stands twice above unfit load-rows table-of loading clear is-table destinations path route-rows relay.written routing routes
+relays = tt
 
 unfoldable pub frames : Unit {0}
 unfolding packets link-in-range primary zone-head header-rows written-rows head-word headers count-width next-count missing in-range frame-length zone-of unused frame-rows heading-rows heading-of heading head head-rows bits-in-range bit-frame-length bit-zone-of bit-unused bit-frame-rows bit-heading-rows bit-heading bit-head bit-head-rows
@@ -63,5 +73,5 @@ unfolding frames setup-of fits stop with-setup with-frame stands nothing-after e
 run-files = tt
 
 unfoldable pub arrays : Unit {0}
-unfolding multiplexing judging bitstreams short zone-for link-of settings-of kind-number header-numbers header-leaves formed-numbers formed-leaves wrap-numbers wrap-leaves unwrap-numbers unwrap-leaves unit-numbers unit-leaves space-numbers read-space-leaves header-of write-space-leaves mux-numbers mux-of begin-leaves put-numbers flush-numbers mux-leaves extractor-numbers extractor-with enter-numbers enter-leaves step-numbers step-leaves part-numbers show-numbers show-leaves judge-numbers judge-with judge-leaves close-numbers close-leaves bits-short bit-settings-of writer-of write-leaves reader-numbers reader-with read-numbers read-leaves
+unfolding multiplexing judging bitstreams relays relaying.entries-of entry-of relaying.table-of entry-numbers table-numbers wide load-leaves route-numbers route-leaves short zone-for link-of settings-of kind-number header-numbers header-leaves formed-numbers formed-leaves wrap-numbers wrap-leaves unwrap-numbers unwrap-leaves unit-numbers unit-leaves space-numbers read-space-leaves header-of write-space-leaves mux-numbers mux-of begin-leaves put-numbers flush-numbers mux-leaves extractor-numbers extractor-with enter-numbers enter-leaves step-numbers step-leaves part-numbers show-numbers show-leaves judge-numbers judge-with judge-leaves close-numbers close-leaves bits-short bit-settings-of writer-of write-leaves reader-numbers reader-with read-numbers read-leaves
 arrays = tt

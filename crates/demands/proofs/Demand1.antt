@@ -6,6 +6,7 @@ use Rattle.demands.proofs.calls.Words.{of-words}
 use Rattle.demands.proofs.calls.Arrays.{of-arrays}
 use Rattle.demands.proofs.calls.Packets.{of-packets}
 use Rattle.demands.proofs.calls.Wrapping.{of-wrapping}
+use Rattle.demands.proofs.calls.Relay.{of-relay}
 use Rattle.demands.proofs.calls.Space.{of-space}
 use Rattle.demands.proofs.calls.Frames.{of-frames}
 use Rattle.demands.proofs.calls.Multiplexer.{of-multiplexer}
@@ -22,6 +23,7 @@ demand-1 = record {
   arrays = of-arrays;
   packets = of-packets;
   wrapping = of-wrapping;
+  relay = of-relay;
   space = of-space;
   frames = of-frames;
   multiplexer = of-multiplexer;

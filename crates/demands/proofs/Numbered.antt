@@ -10,6 +10,7 @@ use Rattle.demands.specs.Numbers.FrameFields as frames
 use Rattle.demands.specs.Numbers.PacketFields.{SpacePackets, EncapsulationPackets, Parts, IdlePackets}
 use Rattle.demands.specs.Numbers.SpaceFields as space
 use Rattle.demands.specs.Numbers.Wrapping as wrapping
+use Rattle.demands.specs.Numbers.Relaying as relaying
 use Rattle.demands.specs.Numbers.Multiplexing as multiplexing
 use Rattle.demands.specs.Numbers.Entering as entering
 use Rattle.demands.specs.Numbers.Stepping as stepping
@@ -349,6 +350,36 @@ together = record {
   in-c = refl;
 }
 
+loaded : relaying.Tables
+unfolding computing.relays
+loaded = record {
+  none = refl;
+  counts = refl;
+  apids = refl;
+  pairs = refl;
+  first = refl;
+  replaced = refl;
+  emptied = refl;
+  kept = refl;
+  made = refl;
+  not-made = refl;
+}
+
+routed : relaying.Ways
+unfolding computing.relays
+routed = record {
+  path = refl;
+  one = refl;
+  no-path = refl;
+  no-entries = refl;
+  limits = refl;
+  unmade = refl;
+  malformed = refl;
+  no-room = refl;
+  order = refl;
+  cases = refl;
+}
+
 pub numbers : Numbers
 numbers = record {
   ranges = ranges;
@@ -384,6 +415,8 @@ numbers = record {
     wrapped = wrapped;
     unwrapped = unwrapped;
     bits = bits-carried;
+    loaded = loaded;
+    routed = routed;
   };
   run-files = run-files;
   answers = answers;

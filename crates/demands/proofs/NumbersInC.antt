@@ -65,9 +65,24 @@ bits = record {
   read = refl;
 }
 
+relay : arrays.Relay
+unfolding computing.arrays
+relay = record {
+  loaded = refl;
+  emptied = refl;
+  full = refl;
+  no-table = refl;
+  no-destination = refl;
+  path = refl;
+  no-path = refl;
+  no-room = refl;
+  refused = refl;
+  unmade = refl;
+}
+
 short : arrays.Short
 unfolding computing.arrays
-short = record { packets = refl; space = refl; mux = refl; extractor = refl; judge = refl; bits = refl }
+short = record { packets = refl; space = refl; mux = refl; extractor = refl; judge = refl; bits = refl; relay = refl; route = refl }
 
 outside : arrays.Outside
 unfolding computing.arrays
@@ -101,4 +116,4 @@ refused = record {
 }
 
 pub in-c : arrays.InC
-in-c = record { short = short; outside = outside; refused = refused; stated = stated; packets = packets; multiplexer = multiplexer; extractor = extractor; judge = judge; bits = bits }
+in-c = record { short = short; outside = outside; refused = refused; stated = stated; packets = packets; multiplexer = multiplexer; extractor = extractor; judge = judge; bits = bits; relay = relay }

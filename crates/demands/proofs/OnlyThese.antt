@@ -4,7 +4,7 @@ use Prim.Native.Nat.{ℕ}
 use mathlib.Core.Path.{_≡_, refl, sym, ap, subst, _∙_}
 use mathlib.Core.List.{List, [], _∷_, map}
 use mathlib.Core.Bool.{Bool, true, false, not}
-use lib.ListN.{length}
+use lib.ListN.{length, take}
 use lib.Dec.{eqb}
 use borrow.Author.Tests.{eq-eqb}
 use Rattle.octets.specs.Basics.{pick, Row, row, first}
@@ -14,6 +14,11 @@ use Rattle.packets.specs.Header.{bare, told}
 use Rattle.wrapping.specs.Idle.{idle-packet-rows}
 use Rattle.wrapping.specs.Wrap.{wrapped-total, wrap-rows, Wrapping, wrapping}
 use Rattle.packets.specs.Unwrap.{unwrap-rows, Unwrapping, unwrapping}
+use Rattle.relay.specs.Table.{load-rows, table-of, entries-of}
+use Rattle.relay.specs.Route.{path, route-rows, Routing, routing}
+use Rattle.relay.specs.Route as relay
+use Rattle.relay.specs.declared.Loaded.{Loaded}
+use Rattle.relay.proofs.Ways.{written-unrefused}
 use Rattle.space.specs.Space.{SpaceReading, space-read-rows, space-reading, space-reads, space-rows, space-writing}
 use Rattle.space.specs.declared.SpaceRead.{SpaceRead}
 use Rattle.frames.specs.Link.{header-rows, written-rows}
@@ -38,6 +43,7 @@ use Rattle.demands.proofs.Promised.{by-rows, through}
 use Rattle.demands.proofs.calls.Extractor.{unrefused}
 use Rattle.demands.proofs.calls.Judge.{closes-unrefused}
 use Rattle.demands.proofs.calls.Packets.{told-unrefused, reading-by-row}
+use Rattle.demands.proofs.calls.Relay.{loading-by-row}
 
 abbrev numbers : List Row → List ℕ
 numbers rows = map (λ (r : Row). r .refusal) rows
@@ -89,7 +95,7 @@ headed rows c r p =
     (λ n. record { refusal = n; count = 0; replay = 0; pointer = 0 }) refl refl (λ n. refl)
 
 pub only-these : OnlyThese
-unfolding put-rows flush-rows idle-rows enter-rows frame-rows header-rows step-rows frame-refusals close-rows wrap-rows unwrap-rows space-rows write-rows read-rows bit-frame-rows heading-rows bit-heading-rows written-rows head-rows bit-head-rows heading bit-heading idle-packet-rows space-read-rows space-reading space-reads enter-answer step-answer step-call found-numbers spend-answer frame-call close-call close-says wrapping unwrapping space-writing written reading
+unfolding put-rows flush-rows idle-rows enter-rows frame-rows header-rows step-rows frame-refusals close-rows wrap-rows unwrap-rows space-rows write-rows read-rows bit-frame-rows heading-rows bit-heading-rows written-rows head-rows bit-head-rows heading bit-heading idle-packet-rows space-read-rows space-reading space-reads enter-answer step-answer step-call found-numbers spend-answer frame-call close-call close-says wrapping unwrapping space-writing load-rows route-rows routing written reading
 only-these = record {
   put = λ s m p frame. called s m (to-put p) frame;
   flush = λ s m frame. called s m to-flush frame;
@@ -117,6 +123,12 @@ only-these = record {
   unwrap = λ limit p.
       among (λ (a : Unwrapping). a .refusal) (unwrap-rows limit p) _
       (λ n. record { accepted = false; refusal = n; protocol = 0; extension = 0; start = 0; size = 0 }) refl refl (λ n. refl);
+  load = λ old count lent.
+      among (λ (a : Loaded). a .refusal) (load-rows count (take count lent)) (record { refusal = 0; table = table-of (take count lent) })
+      (λ n. record { refusal = n; table = old }) (loading-by-row old count lent) refl (λ n. refl);
+  route = λ limit t p output.
+      among (λ (a : Routing). a .refusal) (route-rows limit t p (length output)) (relay.written (path (entries-of t) p) output) (λ n. relay.refused n output)
+      refl (written-unrefused (path (entries-of t) p) output) (λ n. refl);
   header = λ limit os.
       among (λ a. a .refusal) (row 1 (not (limit-in-range limit)) ∷ []) (told os (look limit os)) (λ n. bare n 0)
       (reading-by-row limit os) (told-unrefused os (look limit os)) (λ n. refl);

@@ -6,6 +6,7 @@ use Rattle.demands.specs.calls.Words.{OfWords}
 use Rattle.demands.specs.calls.Arrays.{OfArrays}
 use Rattle.demands.specs.calls.Packets.{OfPackets}
 use Rattle.demands.specs.calls.Wrapping.{OfWrapping}
+use Rattle.demands.specs.calls.Relay.{OfRelay}
 use Rattle.demands.specs.calls.Space.{OfSpace}
 use Rattle.demands.specs.calls.Frames.{OfFrames}
 use Rattle.demands.specs.calls.Multiplexer.{OfMultiplexer}
@@ -21,6 +22,7 @@ pub record Demand1 : Type 0 where
   pub arrays : OfArrays
   pub packets : OfPackets
   pub wrapping : OfWrapping
+  pub relay : OfRelay
   pub space : OfSpace
   pub frames : OfFrames
   pub multiplexer : OfMultiplexer

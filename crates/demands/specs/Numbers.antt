@@ -1,4 +1,4 @@
--- Document 01's numbers and layouts, once, by examples that compute: a rule that code and definitions have wrong together fails here.
+-- The documents' numbers and layouts, once, by examples that compute: a rule that code and definitions have wrong together fails here.
 use Rattle.demands.specs.Numbers.Ranges.{Edges}
 use Rattle.demands.specs.Numbers.Only.{OnlyThese}
 use Rattle.demands.specs.Numbers.Octets as octets
@@ -6,6 +6,7 @@ use Rattle.demands.specs.Numbers.FrameFields as frames
 use Rattle.demands.specs.Numbers.PacketFields.{SpacePackets, EncapsulationPackets, Parts, IdlePackets}
 use Rattle.demands.specs.Numbers.SpaceFields as space
 use Rattle.demands.specs.Numbers.Wrapping as wrapping
+use Rattle.demands.specs.Numbers.Relaying as relaying
 use Rattle.demands.specs.Numbers.Multiplexing as multiplexing
 use Rattle.demands.specs.Numbers.Entering as entering
 use Rattle.demands.specs.Numbers.Stepping as stepping
@@ -22,6 +23,7 @@ pub mod FrameFields
 pub mod PacketFields
 pub mod SpaceFields
 pub mod Wrapping
+pub mod Relaying
 pub mod Multiplexing
 pub mod Entering
 pub mod Stepping
@@ -66,6 +68,8 @@ pub record Outcomes : Type 0 where
   pub wrapped : wrapping.Wrapped
   pub unwrapped : wrapping.Units
   pub bits : bits.Frames
+  pub loaded : relaying.Tables
+  pub routed : relaying.Ways
 
 pub record Numbers : Type 0 where
   pub ranges : Edges

@@ -3,6 +3,7 @@ pub mod Words
 pub mod Arrays
 pub mod Packets
 pub mod Wrapping
+pub mod Relay
 pub mod Space
 pub mod Frames
 pub mod Multiplexer

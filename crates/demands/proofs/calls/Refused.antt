@@ -1,14 +1,19 @@
 -- A refused call of the C interface leaves its record's array and its octets as they were lent.
 -- Assumes nothing.
-use Prim.Native.Nat.{ℕ}
+use Prim.Native.Nat.{ℕ, _/_, _%_}
 use mathlib.Core.Path.{_≡_, refl}
 use mathlib.Core.List.{List}
 use lib.ListN.{length}
+use mathlib.Core.Bool.{not}
 use lib.Dec.{ltb, eqb}
 use borrow.Author.Tests.{ne-eqb}
-use Rattle.octets.specs.Basics.{first}
+use Rattle.octets.specs.Basics.{or, first}
 use Rattle.octets.proofs.Tests.{test}
 use Rattle.wrapping.specs.Wrap.{wrapped-total, wrap-rows, wrapping}
+use Rattle.relay.specs.Table.{empty, loading}
+use Rattle.relay.specs.Route.{route-rows, routing}
+use Rattle.relay.specs.declared.Table.{Table}
+use Rattle.relay.proofs.Ways.{written-unrefused}
 use Rattle.space.specs.Space.{space-rows, space-writing}
 use Rattle.space.specs.declared.SpaceHeader.{SpaceHeader}
 use Rattle.frames.specs.declared.Settings.{Settings}
@@ -29,6 +34,8 @@ use Rattle.exports.specs.Mux.{mux-of, mux-leaves}
 use Rattle.exports.specs.Extract.{extractor-of, enter-leaves, step-leaves}
 use Rattle.exports.specs.Judging.{judge-of, judge-leaves}
 use Rattle.exports.specs.Bits.{bits-short, bit-settings-of, writer-of, write-leaves, reader-of, read-leaves}
+use Rattle.exports.specs.Relaying.{table-of, wide, load-leaves, route-leaves}
+use Rattle.exports.specs.Relaying as relaying
 use Rattle.demands.specs.calls.Exports.{RefusedKeep}
 use Rattle.demands.proofs.calls.Extractor.{unrefused}
 
@@ -65,10 +72,15 @@ space-kept : (h : SpaceHeader) (output : List ℕ) → (space-writing h output .
 unfolding space-writing
 space-kept h output refused = rw (ne-eqb (first (space-rows h (length output))) 0 refused) refl
 
+routed-kept : (limit : ℕ) (t : Table) (p output : List ℕ) → (routing limit t p output .refusal ≡ 0 → ⊥) → routing limit t p output .output ≡ output
+unfolding routing
+routed-kept limit t p output h =
+    test (eqb (first (route-rows limit t p (length output))) 0) (λ t. absurd (h (rw t (written-unrefused _ output)))) (λ t. rw t refl)
+
 -- ---- and what is left of them in arrays
 
 pub refused-keep : RefusedKeep
-unfolding mux-leaves enter-leaves step-leaves judge-leaves write-leaves read-leaves wrap-leaves write-space-leaves
+unfolding mux-leaves enter-leaves step-leaves judge-leaves write-leaves read-leaves wrap-leaves write-space-leaves load-leaves route-leaves
 refused-keep = record {
   mux = λ call room said settings numbers frame array.
       let a = answer (settings-of settings) (mux-of numbers) call frame in
@@ -98,4 +110,11 @@ refused-keep = record {
       test (ltb (length array) 1) (λ t. rw t (λ h. (refl, refl))) (λ t. rw t (λ h. (refl, wrapped-kept limit protocol extension unit packet h)));
   space-written = λ header octets.
       test (ltb (length header) 7) (λ t. rw t (λ h. (refl, refl))) (λ t. rw t (λ h. (refl, space-kept (header-of header) octets h)));
+  loaded = λ entries table.
+      let a = loading empty (length entries / 2) (relaying.entries-of 32 entries) in
+      test (or (not (eqb (length entries % 2) 0)) (ltb (length table) 65)) (λ t. rw t (λ h. (refl, refl)))
+      (λ t. rw t (test (wide entries) (λ w. rw w (λ h. (refl, refl))) (λ w. rw w (λ h. (rw (ne-eqb (a .refusal) 0 h) refl, refl)))));
+  routed = λ limit table packet destinations array.
+      test (or (ltb (length table) 65) (ltb (length array) 2)) (λ t. rw t (λ h. (refl, refl)))
+      (λ t. rw t (λ h. (refl, routed-kept limit (table-of table) packet destinations h)));
 }

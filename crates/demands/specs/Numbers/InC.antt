@@ -1,7 +1,8 @@
 -- The arrays of the C interface by examples: what stands in each entry of settings, records and answers.
-use Prim.Native.Nat.{ℕ}
+use Prim.Native.Nat.{ℕ, zero, suc, _-_}
 use mathlib.Core.Path.{_≡_}
 use mathlib.Core.List.{List, [], _∷_, _++_, map}
+use lib.ListN.{length, replicate}
 use Rattle.multiplexer.specs.Calls.{to-put, to-flush, to-idle}
 use Rattle.exports.specs.Left.{left}
 use Rattle.exports.specs.Channel.{settings-of}
@@ -11,6 +12,7 @@ use Rattle.exports.specs.Mux.{put-numbers, flush-numbers, no-numbers, begin-lea
 use Rattle.exports.specs.Extract.{enter-leaves, step-leaves, show-leaves}
 use Rattle.exports.specs.Judging.{judge-leaves, close-leaves}
 use Rattle.exports.specs.Bits.{bit-settings-of, write-leaves, read-leaves}
+use Rattle.exports.specs.Relaying.{load-leaves, route-leaves}
 use Rattle.demands.specs.Numbers.Samples.{small, two-octets, frame, lent, ten, seven}
 
 -- spacecraft, channel, Z, M and fill; and spacecraft, channel, W and fill
@@ -105,6 +107,47 @@ pub record Bits : Type 0 where
   pub read : read-leaves bit-settings (1 ∷ 2 ∷ []) (0x50 ∷ 0x83 ∷ 0x00 ∷ 0x00 ∷ 0x04 ∷ 0x80 ∷ 0x00 ∷ 0x08 ∷ 0xAB ∷ 0x55 ∷ []) (lent 6)
       ≡ left 0 (1 ∷ 4 ∷ []) [] (4 ∷ 1 ∷ 1 ∷ 9 ∷ 8 ∷ 2 ∷ [])
 
+-- the same for each of a list
+abbrev pub each : {A B : Type 0} → List A → B → List B
+each l b = map (λ a. b) l
+
+-- a relay table's array: how many entries, then an APID and a destination for each, and 0 past the last; an answer: whether there is a path, and how
+-- many destinations
+abbrev pub table : List ℕ → List ℕ
+table ns = ns ++ replicate (65 - length ns) 0
+
+abbrev pub paths : List ℕ
+paths = table (3 ∷ 5 ∷ 7 ∷ 3 ∷ 9 ∷ 5 ∷ 2 ∷ [])
+
+-- so many entries, each with its own APID, and one behind them
+abbrev pub many : ℕ → List ℕ → List ℕ
+many zero last = last
+many (suc n) last = n ∷ 7 ∷ many n last
+
+pub record Relay : Type 0 where
+  pub loaded : load-leaves (5 ∷ 7 ∷ 3 ∷ 9 ∷ 5 ∷ 2 ∷ []) (lent 66) ≡ left 0 (paths ++ (0xFF ∷ [])) [] []
+  pub emptied : load-leaves [] paths ≡ left 0 (table []) [] []
+  pub full : load-leaves (many 32 []) paths ≡ left 0 (32 ∷ many 32 []) [] []
+  -- 12, also for an APID that fits no field; 1 for a destination above 255, before it and behind the last entry that a table has
+  pub no-table : map (λ (es : List ℕ). load-leaves es paths) ((2047 ∷ 0 ∷ []) ∷ (65536 ∷ 0 ∷ []) ∷ (5 ∷ 7 ∷ 5 ∷ 7 ∷ []) ∷ many 33 [] ∷ []) ≡ each (lent 4) (left 12 paths [] [])
+  pub no-destination : map (λ (es : List ℕ). load-leaves es paths) ((2047 ∷ 256 ∷ []) ∷ many 33 (5 ∷ 256 ∷ []) ∷ []) ≡ each (lent 2) (left 1 paths [] [])
+  pub path : route-leaves 12 paths ten (lent 3) (lent 3) ≡ left 0 [] (7 ∷ 2 ∷ 0xFF ∷ []) (2 ∷ 2 ∷ 0xFF ∷ [])
+  pub no-path : route-leaves 12 paths (0xE0 ∷ []) [] (lent 2) ≡ left 0 [] [] (1 ∷ 0 ∷ [])
+  pub no-room : route-leaves 12 paths ten (lent 1) (lent 2) ≡ left 2 [] (lent 1) (0 ∷ 0 ∷ [])
+  -- 1 and 8 in their turn; 10 for more entries than 32, an APID above 2,046, a destination above 255, the same pair twice, and a number past the entries
+  pub refused : route-leaves 6 paths ten (lent 2) (lent 2) ∷ route-leaves 12 paths (0xEC ∷ []) (lent 2) (lent 2) ∷ []
+      ≡ left 1 [] (lent 2) (0 ∷ 0 ∷ []) ∷ left 8 [] (lent 2) (0 ∷ 0 ∷ []) ∷ []
+  pub unmade : map (λ (ns : List ℕ). route-leaves 12 ns ten (lent 2) (lent 2))
+      ((33 ∷ many 32 [])
+      ∷ table (1 ∷ 2047 ∷ 0 ∷ [])
+      ∷ table (1 ∷ 65541 ∷ 0 ∷ [])
+      ∷ table (1 ∷ 5 ∷ 256 ∷ [])
+      ∷ table (2 ∷ 5 ∷ 7 ∷ 5 ∷ 7 ∷ [])
+      ∷ table (1 ∷ 5 ∷ 7 ∷ 0 ∷ 1 ∷ [])
+      ∷ (0 ∷ replicate 63 0 ++ (256 ∷ []))
+      ∷ [])
+      ≡ each (lent 7) (left 10 [] (lent 2) (0 ∷ 0 ∷ []))
+
 -- An array that is one short is refused by 2 before all else, and nothing is written.
 pub record Short : Type 0 where
   pub packets : formed-leaves 6 ten [] ∷ wrap-leaves 6 0 0 [] (lent 2) [] ∷ unwrap-leaves 6 ten (lent 3) ∷ unit-leaves (lent 3) ten (lent 2) ∷ unit-leaves (lent 4) ten (lent 1) ∷ []
@@ -124,6 +167,11 @@ pub record Short : Type 0 where
       ≡ left 2 (lent 4) (lent 2) [] ∷ left 2 (lent 3) (lent 2) [] ∷ left 2 [] [] (lent 1) ∷ []
   pub bits : write-leaves (lent 3) (lent 1) [] 0 (lent 2) ∷ write-leaves (lent 4) [] [] 0 (lent 2) ∷ read-leaves (lent 3) (lent 2) [] (lent 6) ∷ read-leaves (lent 4) (lent 1) [] (lent 6) ∷ read-leaves (lent 4) (lent 2) [] (lent 5) ∷ []
       ≡ left 2 (lent 1) (lent 2) [] ∷ left 2 [] (lent 2) [] ∷ left 2 (lent 2) [] (lent 6) ∷ left 2 (lent 1) [] (lent 6) ∷ left 2 (lent 2) [] (lent 5) ∷ []
+  -- a list that ends within an entry is short too
+  pub relay : load-leaves (5 ∷ 256 ∷ 5 ∷ []) paths ∷ load-leaves (5 ∷ 256 ∷ []) (lent 64) ∷ []
+      ≡ left 2 paths [] [] ∷ left 2 (lent 64) [] [] ∷ []
+  pub route : route-leaves 6 (lent 64) ten (lent 2) (lent 2) ∷ route-leaves 6 paths ten (lent 2) (lent 1) ∷ []
+      ≡ left 2 [] (lent 2) (lent 2) ∷ left 2 [] (lent 2) (lent 1) ∷ []
 
 -- Settings that cannot be are refused by 1, in every call that takes them: a spacecraft above 255, a channel above 62 and a fill above 255, however great; and all stays as it was.
 abbrev pub outside : List (List ℕ)
@@ -138,10 +186,6 @@ outside =
 
 abbrev pub bits-outside : List (List ℕ)
 bits-outside = (256 ∷ 3 ∷ 2 ∷ 0x55 ∷ []) ∷ (66 ∷ 63 ∷ 2 ∷ 0x55 ∷ []) ∷ (4294967362 ∷ 3 ∷ 2 ∷ 0x55 ∷ []) ∷ (66 ∷ 3 ∷ 2 ∷ 256 ∷ []) ∷ []
-
--- the same for each of a list
-abbrev pub each : {A B : Type 0} → List A → B → List B
-each l b = map (λ a. b) l
 
 pub record Outside : Type 0 where
   pub put : map (λ (s : List ℕ). mux-leaves (to-put seven) 2 put-numbers s (4 ∷ 0 ∷ 2047 ∷ 0 ∷ []) (lent 18) (lent 2)) outside
@@ -238,3 +282,4 @@ pub record InC : Type 0 where
   pub extractor : Extractor
   pub judge : Judge
   pub bits : Bits
+  pub relay : Relay

@@ -8,6 +8,10 @@ use Rattle.wrapping.specs.Wrap.{wrapping}
 use Rattle.packets.specs.Unwrap.{unwrapping}
 use Rattle.space.specs.Space.{space-reading, space-writing}
 use Rattle.space.specs.declared.SpaceHeader.{SpaceHeader}
+use Rattle.relay.specs.Table.{loading}
+use Rattle.relay.specs.Route.{routing}
+use Rattle.relay.specs.declared.Entry.{Entry}
+use Rattle.relay.specs.declared.Table.{Table}
 use Rattle.frames.specs.Frame.{heading, head-rows}
 use Rattle.frames.specs.BitFrame.{bit-heading, bit-head-rows}
 use Rattle.frames.specs.declared.Settings.{Settings}
@@ -40,6 +44,8 @@ pub record OnlyThese : Type 0 where
   pub wrap : (limit protocol extension : ℕ) (unit output : List ℕ)
       → Among (wrapping limit protocol extension unit output .refusal) (0 ∷ 1 ∷ 8 ∷ 2 ∷ [])
   pub unwrap : (limit : ℕ) (p : List ℕ) → Among (unwrapping limit p .refusal) (0 ∷ 1 ∷ 8 ∷ 6 ∷ [])
+  pub load : (old : Table) (count : ℕ) (lent : List Entry) → Among (loading old count lent .refusal) (0 ∷ 12 ∷ [])
+  pub route : (limit : ℕ) (t : Table) (p output : List ℕ) → Among (routing limit t p output .refusal) (0 ∷ 1 ∷ 10 ∷ 8 ∷ 2 ∷ [])
   pub header : (limit : ℕ) (os : List ℕ) → Among (reading limit os .refusal) (0 ∷ 1 ∷ [])
   pub write-idle : (r room : ℕ) → Among (first (idle-packet-rows r room)) (0 ∷ 1 ∷ 2 ∷ [])
   pub read-space : (os : List ℕ) → Among (space-reading os .refusal) (0 ∷ 8 ∷ [])

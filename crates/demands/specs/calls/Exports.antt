@@ -12,6 +12,7 @@ use Rattle.exports.specs.Mux.{begin-leaves, mux-leaves, put-numbers, flush-numb
 use Rattle.exports.specs.Extract.{enter-leaves, step-leaves, show-leaves}
 use Rattle.exports.specs.Judging.{judge-leaves, close-leaves}
 use Rattle.exports.specs.Bits.{write-leaves, read-leaves}
+use Rattle.exports.specs.Relaying.{load-leaves, route-leaves}
 use Rattle.exports.specs.Statements.{StatedAgain, PartsNamed, ZeroIsRefused}
 use Rattle.exports.proofs.itz_read_header.Reads as read-header-fn
 use Rattle.exports.proofs.itz_well_formed.Reads as well-formed-fn
@@ -31,6 +32,8 @@ use Rattle.exports.proofs.itz_judge_frame.Reads as judge-frame-fn
 use Rattle.exports.proofs.itz_judge_close.Reads as judge-close-fn
 use Rattle.exports.proofs.itz_bits_write.Reads as bits-write-fn
 use Rattle.exports.proofs.itz_bits_read.Reads as bits-read-fn
+use Rattle.exports.proofs.itz_relay_load.Reads as relay-load-fn
+use Rattle.exports.proofs.itz_relay_route.Reads as relay-route-fn
 use Rattle.demands.specs.Promises.{Slice, Contract, as-read, Is}
 
 -- What a call leaves is its refusal, its record's array, its octets and its answer's array. One that the call has not is empty.
@@ -74,6 +77,8 @@ pub record RefusedKeep : Type 0 where
   pub bits-read : (settings numbers frame answer : List ℕ) → Keeps (read-leaves settings numbers frame answer) numbers []
   pub wrapped : (limit protocol extension : ℕ) (unit packet answer : List ℕ) → Keeps (wrap-leaves limit protocol extension unit packet answer) [] packet
   pub space-written : (header octets : List ℕ) → Keeps (write-space-leaves header octets) [] octets
+  pub loaded : (entries table : List ℕ) → Keeps (load-leaves entries table) table []
+  pub routed : (limit : ℕ) (table packet destinations answer : List ℕ) → Keeps (route-leaves limit table packet destinations answer) [] destinations
 
 -- Each call leaves what the rules give. What it leaves in a record's array states the record again, the parts that it names are those that the
 -- library hands back, a refused call leaves its record and its octets as they were lent, and an answer of all zeros is a refused one.
@@ -132,6 +137,12 @@ pub record OfExports : Type 0 where
   pub bits-read : (κs : Lfts 4) (settings array frame answer : Slice)
       → Is (leaving NoOctets (bits-read-fn.Pre κs (settings, (array, (frame, (answer, tt))))) (λ o. bits-read-fn.Post κs (settings, (array, (frame, (answer, tt)))) (o .refusal) (settings, (at-last array (o .numbers), (frame, (at-last answer (o .answer), tt))))))
       (read-leaves (now settings) (now array) (now frame) (now answer))
+  pub relay-load : (κs : Lfts 2) (entries table : Slice)
+      → Is (leaving NumbersAlone (relay-load-fn.Pre κs (entries, (table, tt))) (λ o. relay-load-fn.Post κs (entries, (table, tt)) (o .refusal) (entries, (at-last table (o .numbers), tt))))
+      (load-leaves (now entries) (now table))
+  pub relay-route : (κs : Lfts 4) (limit : ℕ) (table packet destinations answer : Slice)
+      → Is (leaving NoNumbers (relay-route-fn.Pre κs (limit, (table, (packet, (destinations, (answer, tt)))))) (λ o. relay-route-fn.Post κs (limit, (table, (packet, (destinations, (answer, tt))))) (o .refusal) (limit, (table, (packet, (at-last destinations (o .octets), (at-last answer (o .answer), tt)))))))
+      (route-leaves limit (now table) (now packet) (now destinations) (now answer))
   pub stated-again : (array : List ℕ) → StatedAgain array
   pub parts-named : (array : List ℕ) → PartsNamed array
   pub refused-keep : RefusedKeep
