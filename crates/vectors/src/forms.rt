@@ -44,6 +44,10 @@ pub(crate) enum Verb {
     Write,
     // A frame for the bitstream reader.
     ReadBits,
+    // A list for the relay's table.
+    Load,
+    // A packet for the relay.
+    Route,
     Ask(Question),
     // In none of the forms.
     Unknown,
@@ -103,6 +107,8 @@ fn verb_at(k: usize) -> Verb {
         16 => Verb::Ask(Question::Lent),
         17 => Verb::Ask(Question::SpaceHeader),
         18 => Verb::Ask(Question::WriteSpaceHeader),
+        19 | 20 => Verb::Load,
+        21 => Verb::Route,
         _ => Verb::Unknown,
     }
 }
@@ -231,6 +237,9 @@ header $
 line %: $
 space header $
 write space header into % octets: version % type % secondary % APID % flags % count % length %
+load $
+load nothing
+route into % octets: $
 ";
     find(forms, line)
 }

@@ -6,6 +6,7 @@ mod bits;
 mod forms;
 mod header;
 mod hex;
+mod relaying;
 mod run;
 mod say;
 mod script;

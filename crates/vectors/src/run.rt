@@ -16,6 +16,7 @@ use frames::ZONE_AT;
 use frames::bits::MOST_WIDTH;
 use multiplexer::Mux;
 use multiplexer::Reply;
+use relay::Table;
 
 // The end that packets come out of: the extractor, and the store of what it holds.
 pub(crate) struct Receiver {
@@ -28,8 +29,8 @@ pub(crate) struct BitReceiver {
     pub(crate) reader: Reader,
 }
 
-// Both ends of a channel, and what the lines on it begin with. Packets go in at the multiplexer, which fills the frame, and bits at
-// the writer.
+// Both ends of a channel, a relay's table, and what the lines on it begin with. Packets go in at the multiplexer, which fills the
+// frame, and bits at the writer.
 pub(crate) struct Ends {
     pub(crate) label: Given,
     pub(crate) settings: Settings,
@@ -38,6 +39,7 @@ pub(crate) struct Ends {
     pub(crate) receiver: Receiver,
     pub(crate) writer: Writer,
     pub(crate) bits: BitReceiver,
+    pub(crate) table: Table,
 }
 
 // What the multiplexer answered, and the channel with the frame after it.
@@ -69,6 +71,7 @@ pub(crate) fn begin(label: Given, n: Numbers) -> Ends {
         bits: BitReceiver {
             reader: Reader::Fresh,
         },
+        table: relay::empty(),
     }
 }
 

@@ -56,6 +56,12 @@ pub(crate) const SPACE_HEADER: usize = 23;
 
 pub(crate) const SPACE_SEQUENCE: usize = 24;
 
+pub(crate) const ENTRIES: usize = 25;
+
+pub(crate) const NO_PATH: usize = 26;
+
+pub(crate) const PATH: usize = 27;
+
 pub(crate) fn text(t: &[u8]) {
     io::write_all(STDOUT_FILENO, t);
 }
@@ -124,6 +130,9 @@ pub(crate) fn numbers(phrase: usize, a: u64, b: u64, c: u64, d: u64) {
 line % is in none of the forms:
  version % type % secondary % APID %
  flags % count % length %
+ entries %
+ no path
+ path %
 ";
     form(text::line(phrases, phrase), a, b, c, d);
 }

@@ -6,6 +6,7 @@ use crate::forms::Asked;
 use crate::forms::Numbers;
 use crate::forms::Verb;
 use crate::hex;
+use crate::relaying;
 use crate::run;
 use crate::run::Ends;
 use crate::say;
@@ -28,6 +29,8 @@ fn obey(verb: Verb, n: Numbers, p: &[u8], line: &[u8], e: Ends) -> Ends {
         Verb::Put => run::put_long(e, n.seventh, p),
         Verb::Write => bits::write(e, n.seventh, p),
         Verb::ReadBits => bits::read(e, p),
+        Verb::Load => relaying::load(e, line, p),
+        Verb::Route => relaying::route(e, n.seventh, line, p),
         Verb::Ask(question) => ask::answer(question, n, line, e, p),
         _ => e,
     }
