@@ -8,4 +8,5 @@ mod Judges
 mod Relays
 mod Bitstreams
 pub mod Theorems
+pub mod Tables
 pub mod Zeros

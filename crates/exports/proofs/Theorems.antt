@@ -98,7 +98,7 @@ module _ (array : List ℕ) where
   reader-again reader.Fresh h w = rw (laid-there (0 ∷ 0 ∷ []) h) refl
   reader-again (reader.Last count) h w = rw (laid-there (1 ∷ count ∷ []) h, uncut w) refl
 
-  table-again : (t : Table) → 65 ≤ length array → TableWords t → table-of (told array (table-numbers t)) ≡ t
+  pub table-again : (t : Table) → 65 ≤ length array → TableWords t → table-of (told array (table-numbers t)) ≡ t
   unfolding table-of table-numbers over
   table-again t h w =
       let long : length (table-numbers t) ≡ 65 = ap suc (numbers-long (t .entries)) ∙ omega (arith, w .0) in

@@ -1,6 +1,6 @@
 -- What is shown of the C interface besides each call's promise.
 use mathlib.Core.Path.{_≡_}
-use Prim.Native.Nat.{ℕ, _≤_}
+use Prim.Native.Nat.{ℕ, _*_, _≤_}
 use mathlib.Core.List.{List, [], _∷_}
 use mathlib.Core.Bool.{Bool, true, not}
 use lib.ListN.{length, getD, take, drop}
@@ -24,6 +24,7 @@ use Rattle.judge.specs.declared.Judge.the-variants.{Open, Sound, Faulty}
 use Rattle.bitstream.specs.declared.Writer.{Writer}
 use Rattle.bitstream.specs.declared.Reader.{Reader}
 use Rattle.bitstream.specs.declared.Reader.the-variants as reader
+use Rattle.relay.specs.Table.{is-table}
 use Rattle.relay.specs.Route.{routing}
 use Rattle.relay.specs.declared.Table.{Table}
 use Rattle.arrays.specs.Arrays.{told}
@@ -33,7 +34,7 @@ use Rattle.exports.specs.Mux.{mux-of, mux-numbers, flush-numbers}
 use Rattle.exports.specs.Extract.{extractor-of, extractor-numbers, enter-numbers, step-numbers, show-numbers}
 use Rattle.exports.specs.Judging.{judge-of, judge-numbers, close-numbers}
 use Rattle.exports.specs.Bits.{writer-of, reader-of, reader-numbers}
-use Rattle.exports.specs.Relaying.{table-of, table-numbers, route-numbers}
+use Rattle.exports.specs.Relaying.{table-of, table-numbers, load-leaves, route-numbers}
 
 -- a promise says what `left` is: two outcomes that meet it are the same
 pub record Determined : Type 0 where
@@ -72,6 +73,12 @@ pub record StatedAgain (array : List ℕ) : Type 0 where
   pub writer : (w : Writer) → 1 ≤ length array → Word (w .count) → writer-of (told array (w .count ∷ [])) ≡ w
   pub reader : (x : Reader) → 2 ≤ length array → ReaderWords x → reader-of (told array (reader-numbers x)) ≡ x
   pub table : (t : Table) → 65 ≤ length array → TableWords t → table-of (told array (table-numbers t)) ≡ t
+
+-- Refusal 10 of routing is exact: a table that a load leaves in an array passes, and one that passes is left again by loading its own entries.
+pub record TablesLoaded : Type 0 where
+  pub passes : (entries table : List ℕ) → load-leaves entries table .refusal ≡ 0 → is-table (table-of (load-leaves entries table .numbers)) ≡ true
+  pub again : (count : ℕ) (numbers : List ℕ) → 64 ≤ length numbers → is-table (table-of (count ∷ numbers)) ≡ true
+      → load-leaves (take (2 * count) numbers) (count ∷ numbers) ≡ left 0 (count ∷ numbers) [] []
 
 -- the octets of a packet that a start and a size name
 abbrev pub unit-named : List ℕ → List ℕ → List ℕ

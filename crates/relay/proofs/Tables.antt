@@ -60,7 +60,7 @@ pub table-made : (count : ℕ) (lent : List Entry) → count ≤ length lent
 unfolding table-of
 table-made count lent h = rw (length-take-le count lent h) refl
 
-its-refusal : (old : Table) (count : ℕ) (lent : List Entry) → loading old count lent .refusal ≡ first (load-rows count (take count lent))
+pub its-refusal : (old : Table) (count : ℕ) (lent : List Entry) → loading old count lent .refusal ≡ first (load-rows count (take count lent))
 unfolding loading
 its-refusal old count lent = refl
 
@@ -102,6 +102,10 @@ passing t e = let k = and-true _ _ e in (eqb-true _ 0 (k .0), k .1)
 pub its-entries : (t : Table) → is-table t ≡ true → (t .count ≤ 32) × (unfit (entries-of t) ≡ false)
 its-entries t e = not-refused (t .count) (entries-of t) (passing t e .0)
 
+-- and of what stands past them
+pub past-entries : (t : Table) → is-table t ≡ true → drop (t .count) (t .entries) ≡ replicate (length (drop (t .count) (t .entries))) no-entry
+past-entries t e = none-clear (drop (t .count) (t .entries)) (passing t e .1)
+
 -- a table that passes is that of its own entries
 table-back : (t : Table) → length (t .entries) ≡ 32 → is-table t ≡ true → table-of (entries-of t) ≡ t
 unfolding table-of
@@ -110,7 +114,7 @@ table-back t long e =
     let n : length (entries-of t) ≡ t .count = length-take-le (t .count) (t .entries) (omega arith) in
     let m : length (drop (t .count) (t .entries)) ≡ 32 - t .count = simp length-drop (omega arith) in
     let rest : replicate (32 - length (entries-of t)) no-entry ≡ drop (t .count) (t .entries) =
-    ap (λ (k : ℕ). replicate k no-entry) (ap (λ (k : ℕ). 32 - k) n ∙ sym m) ∙ sym (none-clear _ (passing t e .1)) in
+    ap (λ (k : ℕ). replicate k no-entry) (ap (λ (k : ℕ). 32 - k) n ∙ sym m) ∙ sym (past-entries t e) in
     let entries : entries-of t ++ replicate (32 - length (entries-of t)) no-entry ≡ t .entries =
     ap (λ (es : List Entry). entries-of t ++ es) rest ∙ take-append-drop (t .count) (t .entries) in
     ap₂ (λ (k : ℕ) (es : List Entry). record { count = k; entries = es }) n entries

@@ -40,7 +40,7 @@ idle-apid : (p : List ℕ) → packet-version (getD p 0 0) ≡ 0 → is-idle p �
 unfolding is-idle
 idle-apid p v i = eqb-true (apid p) 2047 (rw v at i)
 
-none-above : (es : List Entry) → unfit es ≡ false → above es ≡ false
+pub none-above : (es : List Entry) → unfit es ≡ false → above es ≡ false
 unfolding unfit
 none-above es u = or-false _ _ u .0
 

@@ -5,6 +5,7 @@ use mathlib.Core.List.{List, []}
 use Prim.Native.Nat.{ℕ}
 use Rattle.exports.specs.Left.{Left, left}
 use Rattle.exports.proofs.Theorems.{stated-again, parts-named}
+use Rattle.exports.proofs.Tables.{tables-loaded}
 use Rattle.exports.proofs.Zeros.{zero-is-refused}
 use Rattle.demands.specs.Promises.{Is}
 use Rattle.demands.proofs.calls.Refused.{refused-keep}
@@ -80,6 +81,7 @@ of-exports = record {
   relay-load = λ κs entries table. numbers-alone;
   relay-route = λ κs limit table packet destinations answer. no-numbers;
   stated-again = stated-again;
+  tables-loaded = tables-loaded;
   parts-named = parts-named;
   refused-keep = refused-keep;
   zero-is-refused = zero-is-refused;

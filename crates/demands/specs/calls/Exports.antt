@@ -13,7 +13,7 @@ use Rattle.exports.specs.Extract.{enter-leaves, step-leaves, show-leaves}
 use Rattle.exports.specs.Judging.{judge-leaves, close-leaves}
 use Rattle.exports.specs.Bits.{write-leaves, read-leaves}
 use Rattle.exports.specs.Relaying.{load-leaves, route-leaves}
-use Rattle.exports.specs.Statements.{StatedAgain, PartsNamed, ZeroIsRefused}
+use Rattle.exports.specs.Statements.{StatedAgain, TablesLoaded, PartsNamed, ZeroIsRefused}
 use Rattle.exports.proofs.itz_read_header.Reads as read-header-fn
 use Rattle.exports.proofs.itz_well_formed.Reads as well-formed-fn
 use Rattle.exports.proofs.itz_wrap.Reads as wrap-fn
@@ -80,8 +80,8 @@ pub record RefusedKeep : Type 0 where
   pub loaded : (entries table : List ℕ) → Keeps (load-leaves entries table) table []
   pub routed : (limit : ℕ) (table packet destinations answer : List ℕ) → Keeps (route-leaves limit table packet destinations answer) [] destinations
 
--- Each call leaves what the rules give. What it leaves in a record's array states the record again, the parts that it names are those that the
--- library hands back, a refused call leaves its record and its octets as they were lent, and an answer of all zeros is a refused one.
+-- Each call leaves what the rules give. What it leaves in a record's array states the record again, routing takes exactly the tables that loading leaves, the
+-- parts that it names are those that the library hands back, a refused call leaves its record and its octets as they were lent, and an answer of all zeros is a refused one.
 pub record OfExports : Type 0 where
   pub read-header : (κs : Lfts 2) (limit : ℕ) (octets answer : Slice)
       → Is (leaving AnswerAlone (read-header-fn.Pre κs (limit, (octets, (answer, tt)))) (λ o. read-header-fn.Post κs (limit, (octets, (answer, tt))) (o .refusal) (limit, (octets, (at-last answer (o .answer), tt)))))
@@ -144,6 +144,7 @@ pub record OfExports : Type 0 where
       → Is (leaving NoNumbers (relay-route-fn.Pre κs (limit, (table, (packet, (destinations, (answer, tt)))))) (λ o. relay-route-fn.Post κs (limit, (table, (packet, (destinations, (answer, tt))))) (o .refusal) (limit, (table, (packet, (at-last destinations (o .octets), (at-last answer (o .answer), tt)))))))
       (route-leaves limit (now table) (now packet) (now destinations) (now answer))
   pub stated-again : (array : List ℕ) → StatedAgain array
+  pub tables-loaded : TablesLoaded
   pub parts-named : (array : List ℕ) → PartsNamed array
   pub refused-keep : RefusedKeep
   pub zero-is-refused : ZeroIsRefused
