@@ -30,7 +30,7 @@ use itzahuemo_reference::random::Random;
 use itzahuemo_reference::reference::extractor::{self, Step};
 use itzahuemo_reference::reference::frame::Settings;
 use itzahuemo_reference::reference::runfile::{self, aosread};
-use itzahuemo_reference::reference::{judge, multiplexer};
+use itzahuemo_reference::reference::{judge, multiplexer, relay};
 
 const SEED: u64 = 7_321;
 
@@ -112,7 +112,7 @@ type Outcome = [u64; 4];
 type Side = fn(&Input, &mut [u8]) -> Outcome;
 
 /// Every work with its sides, the library's first.
-const SIDES: [(&str, &str, Side); 7] = [
+const SIDES: [(&str, &str, Side); 9] = [
     ("extractor", "library", extractor_by_library),
     ("extractor", "reference", extractor_by_reference),
     ("extractor", "plain", extractor_by_plain),
@@ -120,6 +120,8 @@ const SIDES: [(&str, &str, Side); 7] = [
     ("multiplexer", "reference", multiplexer_by_reference),
     ("judge", "library", judge_by_library),
     ("judge", "reference", judge_by_reference),
+    ("relay", "library", relay_by_library),
+    ("relay", "reference", relay_by_reference),
 ];
 
 fn side_of(work: &str, side: &str) -> Result<Side, String> {
@@ -286,6 +288,62 @@ fn judge_by_reference(input: &Input, _: &mut [u8]) -> Outcome {
         judge::Verdict::Pass => [1, 0, 0, 0],
         judge::Verdict::Fault(at) => [2, at.into(), 0, 0],
     }
+}
+
+/// A full table: two destinations for each of the first APIDs of the run.
+fn full_table(input: &Input) -> Vec<relay::Entry> {
+    let mut entries = Vec::new();
+    for packet in &input.packets {
+        let first = u16::from_be_bytes([packet[0], packet[1]]);
+        let apid = u64::from(first % 2_048);
+        let listed = entries.iter().any(|entry: &relay::Entry| entry.apid == apid);
+        if first >> 13 == 0 && apid <= relay::LAST_APID && !listed {
+            let place = entries.len() as u64;
+            entries
+                .extend([place, place + 1].map(|destination| relay::Entry { apid, destination }));
+        }
+        if entries.len() == relay::MOST_ENTRIES {
+            break;
+        }
+    }
+    entries
+}
+
+/// Packets without a path and with one, and their destinations.
+fn routed(outcome: &mut Outcome, destinations: &[u8]) {
+    outcome[usize::from(!destinations.is_empty())] += 1;
+    outcome[2] += destinations.iter().map(|&destination| u64::from(destination)).sum::<u64>();
+}
+
+#[inline(never)]
+fn relay_by_library(input: &Input, _: &mut [u8]) -> Outcome {
+    let entries = full_table(input);
+    let entries: Vec<u64> =
+        entries.iter().flat_map(|entry| [entry.apid, entry.destination]).collect();
+    let mut table = [0; calls::RELAY];
+    assert_eq!(Library.relay_load(&entries, &mut table), 0, "a table");
+    let mut destinations = [0; relay::MOST_ENTRIES];
+    let mut answer = [0; calls::ROUTED];
+    let mut outcome = [0; 4];
+    for packet in &input.packets {
+        let limit = input.settings.limit as u64;
+        let refusal = Library.relay_route(limit, &table, packet, &mut destinations, &mut answer);
+        assert_eq!(refusal, 0, "a well-formed packet");
+        routed(&mut outcome, &destinations[..answer[1] as usize]);
+    }
+    outcome
+}
+
+#[inline(never)]
+fn relay_by_reference(input: &Input, _: &mut [u8]) -> Outcome {
+    let table = relay::load(&full_table(input)).expect("a table");
+    let mut destinations = [0; relay::MOST_ENTRIES];
+    let mut outcome = [0; 4];
+    for packet in &input.packets {
+        let count = relay::route(input.settings.limit, &table, packet, &mut destinations);
+        routed(&mut outcome, &destinations[..count.expect("a well-formed packet")]);
+    }
+    outcome
 }
 
 /// Every event of the extractors, every record of the judges, every frame of the
