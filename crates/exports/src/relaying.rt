@@ -11,13 +11,12 @@ use crate::lent::tell;
 use arrays::entry;
 use arrays::keep;
 use relay::Entry;
+use relay::MOST_ENTRIES;
 use relay::Routed;
 use relay::Table;
 
-// A table has so many entries at most, and its numbers are their count and two for each.
-const MOST_ENTRIES: usize = 32;
-
-const TABLE_NUMBERS: usize = 65;
+// The numbers of a table: how many entries, and two for each that it can have.
+const TABLE_NUMBERS: usize = 2 * MOST_ENTRIES + 1;
 
 // The entries of the answer.
 const ROUTED_ENTRIES: usize = 2;
@@ -57,7 +56,7 @@ fn entry_of(apid: u64, destination: u64) -> Entry
 }
 
 // The entries of numbers two by two; those past the last number are 0.
-fn entries_of(numbers: &[u64]) -> [Entry; 32]
+fn entries_of(numbers: &[u64]) -> [Entry; MOST_ENTRIES]
     ensures { λ r. ⌜ r ≡ entries-of 32 (now (numbers .entry)) ⌝ }
 {
     let none = relay::empty();
@@ -82,10 +81,10 @@ fn table_of(numbers: &[u64]) -> Table
 }
 
 // A table's numbers, by its own two.
-fn table_numbers(count: usize, entries: [Entry; 32]) -> [u64; 65]
+fn table_numbers(count: usize, entries: [Entry; MOST_ENTRIES]) -> [u64; TABLE_NUMBERS]
     ensures { λ r. ⌜ r ≡ count ∷ entry-numbers entries ⌝ }
 {
-    let mut numbers = [0; 65];
+    let mut numbers = [0; TABLE_NUMBERS];
     numbers[0] = count as u64;
     let mut i = 0;
     while i < MOST_ENTRIES {

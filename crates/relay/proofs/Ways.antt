@@ -131,6 +131,10 @@ module _ (limit : ℕ) (t : Table) (p output : List ℕ) (l : limit-in-range lim
   unfolding handed written
   nowhere w e = formed w ∙ rw (e, le-ltb (length output) 0 (omega arith)) refl
 
+  by-space : well-formed limit p ≡ true → is-idle p ≡ false → packet-version (getD p 0 0) ≡ 0
+      → routing limit t p output ≡ handed (destinations (apid p) (entries-of t)) output
+  by-space w i v = formed w ∙ ap (λ (ds : List ℕ). handed ds output) (path-space (entries-of t) p i v)
+
   pub routes : Routes limit t p output
   unfolding handed written
   routes = record {
@@ -138,7 +142,8 @@ module _ (limit : ℕ) (t : Table) (p output : List ℕ) (l : limit-in-range lim
     idle = λ w i. nowhere w (path-idle (entries-of t) p i);
     encapsulation = λ w v. nowhere w (path-encapsulation (entries-of t) p v);
     no-entry = λ w none. nowhere w (path-none (entries-of t) p (none-listed (apid p) (entries-of t) none));
-    path = λ w i v h r. formed w ∙ ap (λ ds. handed ds output) (path-space (entries-of t) p i v) ∙ whole (destinations (apid p) (entries-of t)) h r;
+    no-room = λ w i v r. by-space w i v ∙ rw (lt-ltb (length output) (length (destinations (apid p) (entries-of t))) r) refl;
+    path = λ w i v h r. by-space w i v ∙ whole (destinations (apid p) (entries-of t)) h r;
   }
     where
       whole : (ds : List ℕ) → 1 ≤ length ds → length ds ≤ length output

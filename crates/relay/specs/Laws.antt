@@ -1,6 +1,6 @@
 -- What loading and routing keep to.
 use mathlib.Core.Path.{_≡_}
-use Prim.Native.Nat.{ℕ, _≤_}
+use Prim.Native.Nat.{ℕ, _≤_, _<_}
 use mathlib.Core.List.{List, _∷_, _++_, List·Memᴰ}
 use mathlib.Core.Bool.{true, false}
 use lib.ListN.{length, take, drop, getD}
@@ -52,6 +52,9 @@ pub record Routes (limit : ℕ) (t : Table) (p output : List ℕ) : Type 0 where
         count = length (destinations (apid p) (entries-of t));
         output = destinations (apid p) (entries-of t) ++ drop (length (destinations (apid p) (entries-of t))) output;
       }
+  -- and is refused by 2 where there is no room for these
+  pub no-room : well-formed limit p ≡ true → is-idle p ≡ false → packet-version (getD p 0 0) ≡ 0
+      → length output < length (destinations (apid p) (entries-of t)) → routing limit t p output ≡ refused 2 output
 
 -- so it is of every call
 pub record Relays : Type 0 where

@@ -1,7 +1,7 @@
 -- Relay tables: which lists of entries are tables, and loading one.
 use Prim.Native.Nat.{ℕ, _-_}
 use mathlib.Core.List.{List, [], _∷_, _++_}
-use mathlib.Core.Bool.{Bool, true, false, not}
+use mathlib.Core.Bool.{Bool, true, false}
 use lib.ListN.{length, take, drop, replicate}
 use lib.Dec.{ltb, eqb}
 use Rattle.octets.specs.Basics.{pick, and, or, Row, row, first}

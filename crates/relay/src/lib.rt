@@ -15,7 +15,7 @@ use packets::Header;
 use packets::Kind;
 
 // A table has so many entries at most.
-const MOST_ENTRIES: usize = 32;
+pub const MOST_ENTRIES: usize = 32;
 
 // The greatest APID of an entry: the next one is that of idle packets.
 const MOST_APID: u16 = 2046;
@@ -35,7 +35,7 @@ const NO_ENTRY: Entry = Entry {
 // A relay table: its entries are the first `count`.
 pub struct Table {
     pub count: usize,
-    pub entries: [Entry; 32],
+    pub entries: [Entry; MOST_ENTRIES],
 }
 
 // What comes of loading: the refusal, or 0, and the table to go on with.
@@ -56,7 +56,7 @@ pub enum Routed {
 // The destinations of one APID: the first `count`.
 struct Listed {
     count: usize,
-    list: [u8; 32],
+    list: [u8; MOST_ENTRIES],
 }
 
 // The table with no entry.
@@ -65,7 +65,7 @@ pub fn empty() -> Table
 {
     Table {
         count: 0,
-        entries: [NO_ENTRY; 32],
+        entries: [NO_ENTRY; MOST_ENTRIES],
     }
 }
 
@@ -76,7 +76,7 @@ fn same(a: Entry, b: Entry) -> bool
 }
 
 // Whether an entry stands among those from `from` up to `to`.
-fn stands(e: Entry, entries: [Entry; 32], from: usize, to: usize) -> bool
+fn stands(e: Entry, entries: [Entry; MOST_ENTRIES], from: usize, to: usize) -> bool
     requires { ⌜ to ≤ 32 ⌝ }
     ensures { λ r. ⌜ r ≡ stands e (slice from to entries) ⌝ }
 {
@@ -91,7 +91,7 @@ fn stands(e: Entry, entries: [Entry; 32], from: usize, to: usize) -> bool
 }
 
 // Whether one of the first `count` has an APID that no entry has, or stands there twice.
-fn unfit(entries: [Entry; 32], count: usize) -> bool
+fn unfit(entries: [Entry; MOST_ENTRIES], count: usize) -> bool
     requires { ⌜ count ≤ 32 ⌝ }
     ensures { λ r. ⌜ r ≡ unfit (take count entries) ⌝ }
 {
@@ -107,7 +107,7 @@ fn unfit(entries: [Entry; 32], count: usize) -> bool
 }
 
 // The refusal of the first `count` as a table's entries; 0 where they are not refused.
-fn load_refusal(count: usize, entries: [Entry; 32]) -> u8
+fn load_refusal(count: usize, entries: [Entry; MOST_ENTRIES]) -> u8
     ensures { λ r. ⌜ r ≡ first (load-rows count (take count entries)) ⌝ }
 {
     if MOST_ENTRIES < count {
@@ -120,7 +120,7 @@ fn load_refusal(count: usize, entries: [Entry; 32]) -> u8
 }
 
 // Whether nothing stands from `from` on.
-fn clear(entries: [Entry; 32], from: usize) -> bool
+fn clear(entries: [Entry; MOST_ENTRIES], from: usize) -> bool
     ensures { λ r. ⌜ r ≡ clear (drop from entries) ⌝ }
 {
     let mut i = from;
@@ -134,7 +134,7 @@ fn clear(entries: [Entry; 32], from: usize) -> bool
 }
 
 // The first `count`, and nothing past them.
-fn cleared(entries: [Entry; 32], count: usize) -> [Entry; 32]
+fn cleared(entries: [Entry; MOST_ENTRIES], count: usize) -> [Entry; MOST_ENTRIES]
     requires { ⌜ count ≤ 32 ⌝ }
     ensures { λ r. ⌜ r ≡ take count entries ++ replicate (32 - count) no-entry ⌝ }
 {
@@ -157,7 +157,7 @@ fn is_table(t: Table) -> bool
 }
 
 // Loads the first `count` entries in place of the old table, or hands that back.
-pub fn load(old: Table, count: usize, entries: [Entry; 32]) -> Loaded
+pub fn load(old: Table, count: usize, entries: [Entry; MOST_ENTRIES]) -> Loaded
     ensures { λ r. ⌜ r ≡ loading old count entries ⌝ }
 {
     let refusal = load_refusal(count, entries);
@@ -175,11 +175,11 @@ pub fn load(old: Table, count: usize, entries: [Entry; 32]) -> Loaded
 }
 
 // The destinations of an APID among the first `end` entries, in their order.
-fn destinations(apid: u16, entries: [Entry; 32], end: usize) -> Listed
+fn destinations(apid: u16, entries: [Entry; MOST_ENTRIES], end: usize) -> Listed
     requires { ⌜ end ≤ 32 ⌝ }
     ensures { λ r. ⌜ Found apid (take end entries) (r .count) (r .list) ⌝ }
 {
-    let mut list = [0; 32];
+    let mut list = [0; MOST_ENTRIES];
     let mut count = 0;
     let mut i = 0;
     while i < end {

@@ -3,6 +3,7 @@ use crate::run::Ends;
 use crate::say;
 use relay::Entry;
 use relay::Loaded;
+use relay::MOST_ENTRIES;
 use relay::Routed;
 
 // A list has three octets for an entry: two for its APID, and its destination.
@@ -10,11 +11,8 @@ const ENTRY: usize = 3;
 
 const DESTINATION_AT: usize = 2;
 
-// A table has so many entries at most.
-const MOST_ENTRIES: usize = 32;
-
 // The entries of a list, as many as a table can have; 0 past the last.
-fn listed(list: &[u8]) -> [Entry; 32] {
+fn listed(list: &[u8]) -> [Entry; MOST_ENTRIES] {
     let none = relay::empty();
     let mut entries = none.entries;
     let mut i = 0;
