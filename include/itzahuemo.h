@@ -35,7 +35,8 @@
  * Records. A caller starts one as its comment says and afterwards only hands it
  * back. A record with a kind that is not listed, a number that is too great, or
  * an entry that its kind does not use and that is not 0, is refused (10). A
- * relay table is a record as well: one that no load can have left is 10.
+ * relay table is a record as well: routing refuses (10) one that no load can
+ * have left.
  *
  * The store. Extractor and judge hold the front of an unfinished packet in a
  * store that the caller lends with each call, at least `limit` octets. Use one

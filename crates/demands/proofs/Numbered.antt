@@ -356,6 +356,7 @@ loaded = record {
   none = refl;
   counts = refl;
   apids = refl;
+  places = refl;
   pairs = refl;
   first = refl;
   replaced = refl;
@@ -370,6 +371,7 @@ unfolding computing.relays
 routed = record {
   path = refl;
   one = refl;
+  most = refl;
   no-path = refl;
   no-entries = refl;
   limits = refl;

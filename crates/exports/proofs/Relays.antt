@@ -20,6 +20,7 @@ use Rattle.relay.specs.declared.Table.{Table}
 use Rattle.relay.specs.declared.Loaded.{Loaded}
 use Rattle.relay.specs.declared.Routed.{Routed}
 use Rattle.exports.specs.Relaying.{entry-of, entries-of, table-of, entry-numbers, table-numbers, wide, load-leaves, route-numbers, route-leaves}
+use Rattle.relay.proofs.Determined.{output-undo}
 use Rattle.exports.specs.Left.{left}
 
 -- ---- entries of numbers
@@ -144,13 +145,6 @@ module _ (entries table : List ℕ) where
 
 -- ---- routing
 
--- an answer says which octets it goes with
-octets-same : (r : Routed) (out : List ℕ) → routes r out .output ≡ out
-unfolding routes
-octets-same (Routed.Refused n) out = refl
-octets-same Routed.NoPath out = refl
-octets-same (Routed.Path n) out = refl
-
 module _ (limit : ℕ) (table packet destinations answer : List ℕ) where
   pub route-short : or (ltb (length table) 65) (ltb (length answer) 2) ≡ true
       → left 2 [] destinations answer ≡ route-leaves limit table packet destinations answer
@@ -162,4 +156,4 @@ module _ (limit : ℕ) (table packet destinations answer : List ℕ) where
       → left (routes r out .refusal) [] out (told answer (route-numbers (routes r out))) ≡ route-leaves limit table packet destinations answer
   unfolding route-leaves
   route-done r out t s e =
-      rw (t, ← s, ← e) (ap (λ (os : List ℕ). left (routes r out .refusal) [] os (told answer (route-numbers (routes r out)))) (sym (octets-same r out)))
+      rw (t, ← s, ← e) (ap (λ (os : List ℕ). left (routes r out .refusal) [] os (told answer (route-numbers (routes r out)))) (sym (output-undo r out)))

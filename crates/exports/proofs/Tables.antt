@@ -1,17 +1,17 @@
 -- The tables that loading leaves in an array are those that routing takes.
 -- Assumes nothing.
 use mathlib.Core.Path.{_≡_, refl, sym, ap, _∙_}
-use mathlib.Core.List.{List, [], _∷_}
+use mathlib.Core.List.{List, [], _∷_, _++_}
 use mathlib.Core.Bool.{true, false, not}
-use Prim.Native.Nat.{ℕ, zero, suc, _-_, _*_, _/_, _%_, _≤_}
+use Prim.Native.Nat.{ℕ, zero, suc, _+_, _-_, _*_, _/_, _%_, _≤_, _<_}
 use native.Mathlib.Nat.{le-of-suc-le-suc}
 use native.Mathlib.Omega.{arith}
 use lib.ListN.{length, take, drop, getD, replicate, length-take, length-append, length-replicate, take-append-drop}
-use lib.Seq.{length-take-le}
+use lib.Seq.{take-all, length-take-le}
 use lib.Dec.{ltb, eqb}
-use borrow.Author.Tests.{le-ltb, ltb-false}
+use borrow.Author.Tests.{lt-ltb, not-false, eqb-true, le-ltb, ltb-false}
 use Rattle.octets.specs.Basics.{All, or, first, over}
-use Rattle.octets.proofs.Tests.{test}
+use Rattle.octets.proofs.Tests.{test, or-all}
 use Rattle.octets.proofs.Choices.{or-false, apart}
 use Rattle.octets.proofs.Fronts.{all-joined}
 use Rattle.octets.proofs.Written.{laid-within}
@@ -21,7 +21,7 @@ use Rattle.relay.specs.Table as relay
 use Rattle.relay.specs.declared.Entry.{Entry}
 use Rattle.relay.specs.declared.Table.{Table}
 use Rattle.relay.specs.declared.Loaded.{Loaded}
-use Rattle.relay.proofs.Tables.{reached, loads, taken, its-refusal, past-entries, its-entries}
+use Rattle.relay.proofs.Tables.{reached, loads, taken, its-refusal, not-refused, past-entries, its-entries}
 use Rattle.relay.proofs.Ways.{none-above}
 use Rattle.exports.specs.Left.{left}
 use Rattle.exports.specs.Relaying.{entry-of, entry-numbers, table-numbers, wide, load-leaves}
@@ -43,20 +43,20 @@ as-stated a d h =
     beyond k = omega arith
 
 -- every entry has such an APID
-abbrev Fit : List Entry → Type 0
-Fit es = All (λ e. e .apid ≤ 2046) es
+abbrev Low : List Entry → Type 0
+Low es = All (λ e. e .apid ≤ 2046) es
 
-fit : (es : List Entry) → above es ≡ false → Fit es
+low : (es : List Entry) → above es ≡ false → Low es
 unfolding above
-fit [] h = tt
-fit (e ∷ es) h = let k = or-false (ltb 2046 (e .apid)) (above es) h in (ltb-false 2046 (e .apid) (k .0), fit es (k .1))
+low [] h = tt
+low (e ∷ es) h = let k = or-false (ltb 2046 (e .apid)) (above es) h in (ltb-false 2046 (e .apid) (k .0), low es (k .1))
 
-fit-none : (n : ℕ) → Fit (replicate n no-entry)
-fit-none zero = tt
-fit-none (suc n) = (omega arith, fit-none n)
+low-none : (n : ℕ) → Low (replicate n no-entry)
+low-none zero = tt
+low-none (suc n) = (omega arith, low-none n)
 
 -- the numbers that stated them
-numbers-back : (k : ℕ) (xs : List ℕ) → 2 * k ≤ length xs → Fit (array.entries-of k xs) → entry-numbers (array.entries-of k xs) ≡ take (2 * k) xs
+numbers-back : (k : ℕ) (xs : List ℕ) → 2 * k ≤ length xs → Low (array.entries-of k xs) → entry-numbers (array.entries-of k xs) ≡ take (2 * k) xs
 unfolding array.entries-of entry-numbers
 numbers-back zero xs h f = refl
 numbers-back (suc k) [] h f = absurd (omega arith)
@@ -66,7 +66,7 @@ numbers-back (suc k) (a ∷ d ∷ xs) h f =
     let s : entry-of a d ≡ pair a d = as-stated a d (f .0) .0 in
     rw (s, e) (ap (λ (l : List ℕ). a ∷ d ∷ l) (numbers-back k xs (omega arith) (f .1)))
 
-not-wide : (k : ℕ) (xs : List ℕ) → 2 * k ≤ length xs → Fit (array.entries-of k xs) → wide (take (2 * k) xs) ≡ false
+not-wide : (k : ℕ) (xs : List ℕ) → 2 * k ≤ length xs → Low (array.entries-of k xs) → wide (take (2 * k) xs) ≡ false
 unfolding array.entries-of wide
 not-wide zero xs h f = refl
 not-wide (suc k) [] h f = absurd (omega arith)
@@ -93,12 +93,35 @@ first-again (suc n) (suc k) (a ∷ d ∷ xs) h l =
     let e : 2 * suc n ≡ suc (suc (2 * n)) = omega arith in
     rw e (ap (λ (m : List Entry). entry-of a d ∷ m) (first-again n k xs (le-of-suc-le-suc h) (omega arith)))
 
+-- ---- destinations in any entry
+
+pub wide-anywhere : (ns : List ℕ) (i : ℕ) → 2 * i + 1 < length ns → 255 < getD ns (2 * i + 1) 0 → wide ns ≡ true
+unfolding wide
+wide-anywhere [] i h w = absurd (omega arith)
+wide-anywhere (a ∷ []) i h w = absurd (omega arith)
+wide-anywhere (a ∷ d ∷ ns) zero h w = rw (lt-ltb 255 d w) refl
+wide-anywhere (a ∷ d ∷ ns) (suc i) h w =
+    let e : 2 * suc i + 1 ≡ suc (suc (2 * i + 1)) = omega arith in
+    let v : 255 < getD ns (2 * i + 1) 0 = rw e at w in
+    rw (wide-anywhere ns i (omega arith) v) (or-all (ltb 255 d))
+
+pub not-wide-anywhere : (ns : List ℕ) → ((i : ℕ) → 2 * i + 1 < length ns → getD ns (2 * i + 1) 0 ≤ 255) → wide ns ≡ false
+unfolding wide
+not-wide-anywhere [] n = refl
+not-wide-anywhere (a ∷ []) n = refl
+not-wide-anywhere (a ∷ d ∷ ns) n = rw (le-ltb 255 d (n 0 (omega arith)), not-wide-anywhere ns later) refl
+  where
+    later : (i : ℕ) → 2 * i + 1 < length ns → getD ns (2 * i + 1) 0 ≤ 255
+    later i h =
+        let e : 2 * suc i + 1 ≡ suc (suc (2 * i + 1)) = omega arith in
+        rw e at (n (suc i) (omega arith))
+
 -- ---- a table in its array that passes
 
-table-fit : (t : Table) → is-table t ≡ true → Fit (t .entries)
-table-fit t e =
-    let past : Fit (drop (t .count) (t .entries)) = rw (past-entries t e) (fit-none (length (drop (t .count) (t .entries)))) in
-    rw take-append-drop at (all-joined (λ (x : Entry). x .apid ≤ 2046) (entries-of t) (drop (t .count) (t .entries)) (fit (entries-of t) (none-above (entries-of t) (its-entries t e .1))) past)
+table-low : (t : Table) → is-table t ≡ true → Low (t .entries)
+table-low t e =
+    let past : Low (drop (t .count) (t .entries)) = rw (past-entries t e) (low-none (length (drop (t .count) (t .entries)))) in
+    rw take-append-drop at (all-joined (λ (x : Entry). x .apid ≤ 2046) (entries-of t) (drop (t .count) (t .entries)) (low (entries-of t) (none-above (entries-of t) (its-entries t e .1))) past)
 
 -- loading goes by the entries that count
 loading-alike : (old : Table) (n : ℕ) (es fs : List Entry) → take n es ≡ take n fs → loading old n es ≡ loading old n fs
@@ -119,15 +142,15 @@ module _ (n : ℕ) (xs : List ℕ) (h : 64 ≤ length xs) (e : is-table (array.t
   listed-long : length (take (2 * n) xs) ≡ 2 * n
   listed-long = length-take-le (2 * n) xs (omega (arith, few))
 
-  all-fit : Fit (array.entries-of 32 xs)
+  all-low : Low (array.entries-of 32 xs)
   unfolding array.table-of
-  all-fit = table-fit (array.table-of (n ∷ xs)) e
+  all-low = table-low (array.table-of (n ∷ xs)) e
 
-  first-fit : Fit (array.entries-of n xs)
+  first-low : Low (array.entries-of n xs)
   unfolding array.table-of
-  first-fit =
+  first-low =
       rw (first-of n 32 xs few) at
-      (fit (take n (array.entries-of 32 xs)) (none-above (take n (array.entries-of 32 xs)) (its-entries (array.table-of (n ∷ xs)) e .1)))
+      (low (take n (array.entries-of 32 xs)) (none-above (take n (array.entries-of 32 xs)) (its-entries (array.table-of (n ∷ xs)) e .1)))
 
   loaded : loading empty n (array.entries-of 32 (take (2 * n) xs)) ≡ record { refusal = 0; table = array.table-of (n ∷ xs) }
   unfolding array.table-of
@@ -138,7 +161,7 @@ module _ (n : ℕ) (xs : List ℕ) (h : 64 ≤ length xs) (e : is-table (array.t
 
   numbers : table-numbers (array.table-of (n ∷ xs)) ≡ take 65 (n ∷ xs)
   unfolding array.table-of table-numbers
-  numbers = ap (λ (l : List ℕ). n ∷ l) (numbers-back 32 xs h all-fit)
+  numbers = ap (λ (l : List ℕ). n ∷ l) (numbers-back 32 xs h all-low)
 
   pub loaded-again : load-leaves (take (2 * n) xs) (n ∷ xs) ≡ left 0 (n ∷ xs) [] []
   unfolding load-leaves
@@ -149,14 +172,39 @@ module _ (n : ℕ) (xs : List ℕ) (h : 64 ≤ length xs) (e : is-table (array.t
         listed-long,
         even,
         le-ltb (length (n ∷ xs)) 65 (omega arith),
-        not-wide n xs (omega (arith, few)) first-fit,
+        not-wide n xs (omega (arith, few)) first-low,
         half,
         loaded,
         numbers,
         told-same (n ∷ xs) (omega arith),
       ) refl
 
--- ---- a table that is loaded
+-- ---- a table that is loaded: its numbers are those of the list, and zeros behind them
+
+numbers-joined : (es fs : List Entry) → entry-numbers (es ++ fs) ≡ entry-numbers es ++ entry-numbers fs
+unfolding entry-numbers
+numbers-joined [] fs = refl
+numbers-joined (e ∷ es) fs = ap (λ (l : List ℕ). e .apid ∷ e .destination ∷ l) (numbers-joined es fs)
+
+numbers-none : (k : ℕ) → entry-numbers (replicate k no-entry) ≡ replicate (2 * k) 0
+unfolding entry-numbers
+numbers-none zero = refl
+numbers-none (suc k) =
+    let e : 2 * suc k ≡ suc (suc (2 * k)) = omega arith in
+    rw e (ap (λ (l : List ℕ). 0 ∷ 0 ∷ l) (numbers-none k))
+
+-- the list's own numbers, for n entries
+listed-numbers : (n : ℕ) (entries : List ℕ) → length entries ≡ 2 * n → n ≤ 32 → Low (array.entries-of n entries)
+    → table-numbers (relay.table-of (take n (array.entries-of 32 entries))) ≡ n ∷ (entries ++ replicate (64 - length entries) 0)
+unfolding relay.table-of table-numbers
+listed-numbers n entries long few fits =
+    let some : List Entry = array.entries-of n entries in
+    let count : length some ≡ n = entries-long n entries in
+    let own : entry-numbers some ≡ entries = numbers-back n entries (omega arith) fits ∙ take-all (2 * n) entries (omega arith) in
+    let zeros : 2 * (32 - n) ≡ 64 - length entries = omega arith in
+    rw (first-of n 32 entries few, count, numbers-joined some (replicate (32 - n) no-entry), own, numbers-none (32 - n), zeros) refl
+
+-- ---- and it passes
 
 -- an APID of 16 bits and a destination of 8
 abbrev Words : List Entry → Type 0
@@ -191,6 +239,16 @@ made-words n es long w =
     )
 
 module _ (entries table : List ℕ) where
+  loaded-numbers : length entries % 2 ≡ 0 → loading empty (length entries / 2) (array.entries-of 32 entries) .refusal ≡ 0
+      → table-numbers (loading empty (length entries / 2) (array.entries-of 32 entries) .table) ≡ length entries / 2 ∷ (entries ++ replicate (64 - length entries) 0)
+  loaded-numbers even e =
+      let n : ℕ = length entries / 2 in
+      let lent : List Entry = array.entries-of 32 entries in
+      let none = sym (its-refusal empty n lent) ∙ e in
+      let few = not-refused n (take n lent) none in
+      let fits : Low (array.entries-of n entries) = rw (first-of n 32 entries (few .0)) at (low (take n lent) (none-above (take n lent) (few .1))) in
+      ap (λ (l : Loaded). table-numbers (l .table)) (taken empty n lent none) ∙ listed-numbers n entries (omega arith) (few .0) fits
+
   loaded-table : 65 ≤ length table → loading empty (length entries / 2) (array.entries-of 32 entries) .refusal ≡ 0
       → is-table (array.table-of (told table (table-numbers (loading empty (length entries / 2) (array.entries-of 32 entries) .table)))) ≡ true
   loaded-table h e =
@@ -201,6 +259,16 @@ module _ (entries table : List ℕ) where
       table-again table (loading empty n lent .table) h (rw is (made-words n lent (entries-long 32 entries) (words 32 entries))) in
       ap is-table again ∙ loads empty n lent .passes e
 
+  pub loaded-holds : load-leaves entries table .refusal ≡ 0
+      → load-leaves entries table .numbers ≡ told table (length entries / 2 ∷ (entries ++ replicate (64 - length entries) 0))
+  unfolding load-leaves
+  loaded-holds =
+      test (or (not (eqb (length entries % 2) 0)) (ltb (length table) 65)) (λ t. rw t (λ e. apart (omega arith)))
+      (λ t.
+      let even : eqb (length entries % 2) 0 ≡ true = not-false _ (or-false (not (eqb (length entries % 2) 0)) (ltb (length table) 65) t .0) in
+      rw t (test (wide entries) (λ w. rw w (λ e. apart (omega arith)))
+      (λ w. rw w (λ e. rw e (ap (told table) (loaded-numbers (eqb-true (length entries % 2) 0 even) e))))))
+
   pub loaded-passes : load-leaves entries table .refusal ≡ 0 → is-table (array.table-of (load-leaves entries table .numbers)) ≡ true
   unfolding load-leaves
   loaded-passes =
@@ -210,4 +278,4 @@ module _ (entries table : List ℕ) where
       rw t (test (wide entries) (λ w. rw w (λ e. apart (omega arith))) (λ w. rw w (λ e. rw e (loaded-table room e)))))
 
 pub tables-loaded : TablesLoaded
-tables-loaded = record { passes = loaded-passes; again = loaded-again }
+tables-loaded = record { holds = loaded-holds; passes = loaded-passes; again = loaded-again; wide = wide-anywhere; narrow = not-wide-anywhere }

@@ -1,9 +1,9 @@
 -- What is shown of the C interface besides each call's promise.
 use mathlib.Core.Path.{_≡_}
-use Prim.Native.Nat.{ℕ, _*_, _≤_}
-use mathlib.Core.List.{List, [], _∷_}
-use mathlib.Core.Bool.{Bool, true, not}
-use lib.ListN.{length, getD, take, drop}
+use Prim.Native.Nat.{ℕ, _+_, _-_, _*_, _/_, _≤_, _<_}
+use mathlib.Core.List.{List, [], _∷_, _++_}
+use mathlib.Core.Bool.{Bool, true, false, not}
+use lib.ListN.{length, getD, take, drop, replicate}
 use lib.Dec.{eqb}
 use Rattle.octets.specs.Basics.{pick, and, All}
 use Rattle.frames.specs.declared.Settings.{Settings}
@@ -35,6 +35,7 @@ use Rattle.exports.specs.Extract.{extractor-of, extractor-numbers, enter
 use Rattle.exports.specs.Judging.{judge-of, judge-numbers, close-numbers}
 use Rattle.exports.specs.Bits.{writer-of, reader-of, reader-numbers}
 use Rattle.exports.specs.Relaying.{table-of, table-numbers, load-leaves, route-numbers}
+use Rattle.exports.specs.Relaying as relaying
 
 -- a promise says what `left` is: two outcomes that meet it are the same
 pub record Determined : Type 0 where
@@ -74,8 +75,13 @@ pub record StatedAgain (array : List ℕ) : Type 0 where
   pub reader : (x : Reader) → 2 ≤ length array → ReaderWords x → reader-of (told array (reader-numbers x)) ≡ x
   pub table : (t : Table) → 65 ≤ length array → TableWords t → table-of (told array (table-numbers t)) ≡ t
 
+-- A list with a destination above 255, in whichever entry, is told by `wide`. A load that is not refused leaves the list's own numbers behind their count, and zeros.
 -- Refusal 10 of routing is exact: a table that a load leaves in an array passes, and one that passes is left again by loading its own entries.
 pub record TablesLoaded : Type 0 where
+  pub wide : (entries : List ℕ) (i : ℕ) → 2 * i + 1 < length entries → 255 < getD entries (2 * i + 1) 0 → relaying.wide entries ≡ true
+  pub narrow : (entries : List ℕ) → ((i : ℕ) → 2 * i + 1 < length entries → getD entries (2 * i + 1) 0 ≤ 255) → relaying.wide entries ≡ false
+  pub holds : (entries table : List ℕ) → load-leaves entries table .refusal ≡ 0
+      → load-leaves entries table .numbers ≡ told table (length entries / 2 ∷ (entries ++ replicate (64 - length entries) 0))
   pub passes : (entries table : List ℕ) → load-leaves entries table .refusal ≡ 0 → is-table (table-of (load-leaves entries table .numbers)) ≡ true
   pub again : (count : ℕ) (numbers : List ℕ) → 64 ≤ length numbers → is-table (table-of (count ∷ numbers)) ≡ true
       → load-leaves (take (2 * count) numbers) (count ∷ numbers) ≡ left 0 (count ∷ numbers) [] []

@@ -16,6 +16,10 @@ pub or-none : (b : Bool) → or b false ≡ b
 or-none true = refl
 or-none false = refl
 
+pub or-all : (b : Bool) → or b true ≡ true
+or-all true = refl
+or-all false = refl
+
 -- what is told by numbers that can be taken back is determined by them
 pub told-apart {ℓ ℓ′} : {A : Type ℓ} {B : Type ℓ′} (f : A → B) (back : B → A) → ((a : A) → back (f a) ≡ a)
     → {a b : A} {x : B} → f a ≡ x → f b ≡ x → a ≡ b

@@ -17,7 +17,8 @@ routed-undo (Routed.Refused n) output = refl
 routed-undo Routed.NoPath output = refl
 routed-undo (Routed.Path n) output = refl
 
-output-undo : (r : Routed) (output : List ℕ) → routes r output .output ≡ output
+-- an answer says which octets it goes with
+pub output-undo : (r : Routed) (output : List ℕ) → routes r output .output ≡ output
 unfolding routes
 output-undo (Routed.Refused n) output = refl
 output-undo Routed.NoPath output = refl

@@ -3,17 +3,16 @@
 use mathlib.Core.Path.{_≡_, refl, sym, ap, ap₂, _∙_}
 use mathlib.Core.Logic.{⊎-elim}
 use mathlib.Core.List.{List, [], _∷_, _++_, List·Memᴰ, List·Memᴰ·head, List·Memᴰ·tail, List·Memᴰ·not-nil, List·Memᴰ·cases-cons, Memᴰ·cast}
-use mathlib.Core.Bool.{Bool, true, false}
+use mathlib.Core.Bool.{true, false}
 use Prim.Native.Nat.{ℕ, _≤_}
 use native.Mathlib.Omega.{arith}
 use lib.Dec.{eqb}
-use borrow.Author.Tests.{eqb-true, eqb-false, eq-eqb, ne-eqb, ltb-false}
-use Rattle.octets.specs.Basics.{or}
-use Rattle.octets.proofs.Tests.{test, and-both}
-use Rattle.octets.proofs.Choices.{and-true, or-false, apart}
-use Rattle.relay.specs.Table.{pair, same, stands, twice, above}
+use borrow.Author.Tests.{eqb-true, eqb-false, eq-eqb, ne-eqb, ltb-false, le-ltb}
+use Rattle.octets.proofs.Tests.{test, and-both, or-all}
+use Rattle.octets.proofs.Choices.{and-true, or-true, or-false, apart}
+use Rattle.relay.specs.Table.{pair, same, stands, twice, above, unfit}
 use Rattle.relay.specs.Route.{destinations}
-use Rattle.relay.specs.Laws.{Destines}
+use Rattle.relay.specs.Laws.{Fit, Destines}
 use Rattle.relay.specs.declared.Entry.{Entry}
 
 pub same-true : (a b : Entry) → same a b ≡ true → a ≡ b
@@ -24,15 +23,59 @@ pub true-same : (a : Entry) → same a a ≡ true
 unfolding same
 true-same a = and-both (eq-eqb (a .apid) (a .apid) refl) (eq-eqb (a .destination) (a .destination) refl)
 
-or-all : (b : Bool) → or b true ≡ true
-or-all true = refl
-or-all false = refl
-
 stands-there : (e : Entry) (es : List Entry) → List·Memᴰ e es → stands e es ≡ true
 unfolding stands
 stands-there e [] m = absurd (List·Memᴰ·not-nil m)
 stands-there e (f ∷ fs) m =
     ⊎-elim (λ q. rw (← q, true-same e) refl) (λ n. rw (stands-there e fs n) (or-all (same e f))) (List·Memᴰ·cases-cons m)
+
+-- no APID above 2,046, and no pair at two places
+apids-within : (es : List Entry) → above es ≡ false → (e : Entry) → List·Memᴰ e es → e .apid ≤ 2046
+unfolding above
+apids-within [] h e m = absurd (List·Memᴰ·not-nil m)
+apids-within (f ∷ es) h e m =
+    let k = or-false _ _ h in
+    ⊎-elim (λ (q : e ≡ f). let own : e .apid ≡ f .apid = ap (λ (g : Entry). g .apid) q in rw own (ltb-false 2046 (f .apid) (k .0))) (λ n. apids-within es (k .1) e n) (List·Memᴰ·cases-cons m)
+
+within-apids : (es : List Entry) → ((e : Entry) → List·Memᴰ e es → e .apid ≤ 2046) → above es ≡ false
+unfolding above
+within-apids [] h = refl
+within-apids (f ∷ es) h = rw (le-ltb 2046 (f .apid) (h f (List·Memᴰ·head refl)), within-apids es (λ e m. h e (List·Memᴰ·tail m))) refl
+
+none-twice : (es : List Entry) → twice es ≡ false → (before after : List Entry) (e : Entry) → es ≡ before ++ (e ∷ after) → List·Memᴰ e after → ⊥
+unfolding twice
+none-twice [] h [] after e q m = apart (cc)
+none-twice [] h (b ∷ before) after e q m = apart (cc)
+none-twice (f ∷ es) h [] after e q m =
+    let k = or-false (stands f es) (twice es) h in
+    let rest : es ≡ after = cc in
+    let own : f ≡ e = cc in
+    let there : stands f es ≡ true = stands-there f es (rw (own, rest) m) in
+    let no : true ≡ false = sym there ∙ k .0 in
+    apart (cc)
+none-twice (f ∷ es) h (b ∷ before) after e q m = none-twice es (or-false (stands f es) (twice es) h .1) before after e (cc) m
+
+there-stands : (e : Entry) (es : List Entry) → stands e es ≡ true → List·Memᴰ e es
+unfolding stands
+there-stands e [] h = apart (cc)
+there-stands e (f ∷ fs) h = ⊎-elim (λ s. List·Memᴰ·head (same-true e f s)) (λ s. List·Memᴰ·tail (there-stands e fs s)) (or-true (same e f) (stands e fs) h)
+
+twice-none : (es : List Entry) → ((before after : List Entry) (e : Entry) → es ≡ before ++ (e ∷ after) → List·Memᴰ e after → ⊥) → twice es ≡ false
+unfolding twice
+twice-none [] h = refl
+twice-none (f ∷ es) h =
+    let one : stands f es ≡ false = test (stands f es) (λ t. absurd (h [] es f refl (there-stands f es t))) (λ t. t) in
+    rw (one, twice-none es (λ before after e q m. h (f ∷ before) after e (ap (λ l. f ∷ l) q) m)) refl
+
+pub fit-entries : (count : ℕ) (es : List Entry) → count ≤ 32 → unfit es ≡ false → Fit count es
+unfolding unfit
+fit-entries count es n u =
+    let k = or-false _ _ u in
+    record { few = n; apids = apids-within es (k .0); pairs = none-twice es (k .1) }
+
+pub entries-fit : (count : ℕ) (es : List Entry) → Fit count es → unfit es ≡ false
+unfolding unfit
+entries-fit count es f = rw (within-apids es (f .apids), twice-none es (f .pairs)) refl
 
 -- ---- destinations
 

@@ -52,7 +52,7 @@ module _ (limit : ℕ) (p : List ℕ) where
     unfolding reading
     as-told h e = rw l at e
 
-    pub not-whole : (h : Header) → OneOf (0 ∷ 1 ∷ 2 ∷ []) (tagOf the-type h) → answer h ≡ reading limit p → well-formed limit p ≡ false
+    not-whole : (h : Header) → OneOf (0 ∷ 1 ∷ 2 ∷ []) (tagOf the-type h) → answer h ≡ reading limit p → well-formed limit p ≡ false
     unfolding answer told well-formed states
     not-whole h k e = go (look limit p) h k (as-told h e)
       where

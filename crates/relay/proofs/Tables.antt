@@ -15,7 +15,7 @@ use Rattle.relay.specs.Table.{unfit, load-rows, no-entry, clear, table-o
 use Rattle.relay.specs.Laws.{Loads, Reached}
 use Rattle.relay.specs.declared.Entry.{Entry}
 use Rattle.relay.specs.declared.Table.{Table}
-use Rattle.relay.proofs.Entries.{same-true, true-same}
+use Rattle.relay.proofs.Entries.{same-true, true-same, fit-entries, entries-fit}
 
 -- ---- the refusal
 
@@ -32,7 +32,7 @@ not-refused n es e =
 
 -- ---- nothing past the entries
 
-pub clear-none : (n : ℕ) → clear (replicate n no-entry) ≡ true
+clear-none : (n : ℕ) → clear (replicate n no-entry) ≡ true
 unfolding clear
 clear-none zero = refl
 clear-none (suc n) = and-both (true-same no-entry) (clear-none n)
@@ -64,7 +64,7 @@ pub its-refusal : (old : Table) (count : ℕ) (lent : List Entry) → loading ol
 unfolding loading
 its-refusal old count lent = refl
 
-pub entries-back : (es : List Entry) → entries-of (table-of es) ≡ es
+entries-back : (es : List Entry) → entries-of (table-of es) ≡ es
 unfolding table-of
 entries-back es = take-append-seam es (replicate (32 - length es) no-entry)
 
@@ -83,6 +83,8 @@ made es e = rw (entries-back es, its-count es, e) (past-clear es)
 pub loads : (old : Table) (count : ℕ) (lent : List Entry) → Loads old count lent
 unfolding loading
 loads old count lent = record {
+  fit = λ e. let k = not-refused count (take count lent) e in fit-entries count (take count lent) (k .0) (k .1);
+  unfit = λ f. loadable count (take count lent) (f .few) (entries-fit count (take count lent) f);
   holds = λ e. ap (λ l. entries-of (l .table)) (taken old count lent e) ∙ entries-back (take count lent);
   passes = λ e. ap (λ l. is-table (l .table)) (taken old count lent e) ∙ made (take count lent) (shorter e);
   last = λ e older. taken older count lent e ∙ sym (taken old count lent e);

@@ -10,8 +10,17 @@ use Rattle.relay.specs.Route.{destinations, refused, no-path, routing}
 use Rattle.relay.specs.declared.Entry.{Entry}
 use Rattle.relay.specs.declared.Table.{Table}
 
+-- entries that a table can have: 32 at most, no APID above 2,046, and no pair at two places
+pub record Fit (count : ℕ) (es : List Entry) : Type 0 where
+  pub few : count ≤ 32
+  pub apids : (e : Entry) → List·Memᴰ e es → e .apid ≤ 2046
+  pub pairs : (before after : List Entry) (e : Entry) → es ≡ before ++ (e ∷ after) → List·Memᴰ e after → ⊥
+
 -- loading the first `count` of the entries that are lent
 pub record Loads (old : Table) (count : ℕ) (lent : List Entry) : Type 0 where
+  -- it is refused exactly where no table can have these entries
+  pub fit : loading old count lent .refusal ≡ 0 → Fit count (take count lent)
+  pub unfit : Fit count (take count lent) → loading old count lent .refusal ≡ 0
   -- where it is not refused the table has these entries, and passes; the old table does not matter
   pub holds : loading old count lent .refusal ≡ 0 → entries-of (loading old count lent .table) ≡ take count lent
   pub passes : loading old count lent .refusal ≡ 0 → is-table (loading old count lent .table) ≡ true

@@ -75,7 +75,7 @@ space-kept h output refused = rw (ne-eqb (first (space-rows h (length output))) 
 routed-kept : (limit : ℕ) (t : Table) (p output : List ℕ) → (routing limit t p output .refusal ≡ 0 → ⊥) → routing limit t p output .output ≡ output
 unfolding routing
 routed-kept limit t p output h =
-    test (eqb (first (route-rows limit t p (length output))) 0) (λ t. absurd (h (rw t (written-unrefused _ output)))) (λ t. rw t refl)
+    test (eqb (first (route-rows limit t p (length output))) 0) (λ k. absurd (h (rw k (written-unrefused _ output)))) (λ k. rw k refl)
 
 -- ---- and what is left of them in arrays
 

@@ -13,7 +13,7 @@ use Rattle.exports.specs.Extract.{enter-leaves, step-leaves, show-leaves}
 use Rattle.exports.specs.Judging.{judge-leaves, close-leaves}
 use Rattle.exports.specs.Bits.{bit-settings-of, write-leaves, read-leaves}
 use Rattle.exports.specs.Relaying.{load-leaves, route-leaves}
-use Rattle.demands.specs.Numbers.Samples.{small, two-octets, frame, lent, ten, seven}
+use Rattle.demands.specs.Numbers.Samples.{small, two-octets, frame, lent, ten, seven, each}
 
 -- spacecraft, channel, Z, M and fill; and spacecraft, channel, W and fill
 abbrev pub settings : List ℕ
@@ -107,10 +107,6 @@ pub record Bits : Type 0 where
   pub read : read-leaves bit-settings (1 ∷ 2 ∷ []) (0x50 ∷ 0x83 ∷ 0x00 ∷ 0x00 ∷ 0x04 ∷ 0x80 ∷ 0x00 ∷ 0x08 ∷ 0xAB ∷ 0x55 ∷ []) (lent 6)
       ≡ left 0 (1 ∷ 4 ∷ []) [] (4 ∷ 1 ∷ 1 ∷ 9 ∷ 8 ∷ 2 ∷ [])
 
--- the same for each of a list
-abbrev pub each : {A B : Type 0} → List A → B → List B
-each l b = map (λ a. b) l
-
 -- a relay table's array: how many entries, then an APID and a destination for each, and 0 past the last; an answer: whether there is a path, and how
 -- many destinations
 abbrev pub table : List ℕ → List ℕ
@@ -129,24 +125,27 @@ pub record Relay : Type 0 where
   pub emptied : load-leaves [] paths ≡ left 0 (table []) [] []
   pub full : load-leaves (many 32 []) paths ≡ left 0 (32 ∷ many 32 []) [] []
   -- 12, also for an APID that fits no field; 1 for a destination above 255, before it and behind the last entry that a table has
-  pub no-table : map (λ (es : List ℕ). load-leaves es paths) ((2047 ∷ 0 ∷ []) ∷ (65536 ∷ 0 ∷ []) ∷ (5 ∷ 7 ∷ 5 ∷ 7 ∷ []) ∷ many 33 [] ∷ []) ≡ each (lent 4) (left 12 paths [] [])
-  pub no-destination : map (λ (es : List ℕ). load-leaves es paths) ((2047 ∷ 256 ∷ []) ∷ many 33 (5 ∷ 256 ∷ []) ∷ []) ≡ each (lent 2) (left 1 paths [] [])
+  pub no-table : map (λ (es : List ℕ). load-leaves es paths) ((2047 ∷ 0 ∷ []) ∷ (65536 ∷ 0 ∷ []) ∷ (4294967301 ∷ 7 ∷ 5 ∷ 9 ∷ []) ∷ (5 ∷ 7 ∷ 5 ∷ 7 ∷ []) ∷ many 33 [] ∷ []) ≡ each (lent 5) (left 12 paths [] [])
+  pub no-destination : map (λ (es : List ℕ). load-leaves es paths) ((2047 ∷ 256 ∷ []) ∷ (5 ∷ 256 ∷ 6 ∷ 7 ∷ []) ∷ (5 ∷ 4294967303 ∷ []) ∷ many 33 (5 ∷ 256 ∷ []) ∷ []) ≡ each (lent 4) (left 1 paths [] [])
   pub path : route-leaves 12 paths ten (lent 3) (lent 3) ≡ left 0 [] (7 ∷ 2 ∷ 0xFF ∷ []) (2 ∷ 2 ∷ 0xFF ∷ [])
   pub no-path : route-leaves 12 paths (0xE0 ∷ []) [] (lent 2) ≡ left 0 [] [] (1 ∷ 0 ∷ [])
   pub no-room : route-leaves 12 paths ten (lent 1) (lent 2) ≡ left 2 [] (lent 1) (0 ∷ 0 ∷ [])
   -- 1 and 8 in their turn; 10 for more entries than 32, an APID above 2,046, a destination above 255, the same pair twice, and a number past the entries
-  pub refused : route-leaves 6 paths ten (lent 2) (lent 2) ∷ route-leaves 12 paths (0xEC ∷ []) (lent 2) (lent 2) ∷ []
-      ≡ left 1 [] (lent 2) (0 ∷ 0 ∷ []) ∷ left 8 [] (lent 2) (0 ∷ 0 ∷ []) ∷ []
+  pub refused : route-leaves 6 paths ten (lent 2) (lent 2) ∷ route-leaves 4294967308 paths ten (lent 2) (lent 2) ∷ route-leaves 12 paths (0xEC ∷ []) (lent 2) (lent 2) ∷ []
+      ≡ left 1 [] (lent 2) (0 ∷ 0 ∷ []) ∷ left 1 [] (lent 2) (0 ∷ 0 ∷ []) ∷ left 8 [] (lent 2) (0 ∷ 0 ∷ []) ∷ []
   pub unmade : map (λ (ns : List ℕ). route-leaves 12 ns ten (lent 2) (lent 2))
       ((33 ∷ many 32 [])
       ∷ table (1 ∷ 2047 ∷ 0 ∷ [])
       ∷ table (1 ∷ 65541 ∷ 0 ∷ [])
+      ∷ table (1 ∷ 4294967301 ∷ 0 ∷ [])
       ∷ table (1 ∷ 5 ∷ 256 ∷ [])
+      ∷ table (1 ∷ 5 ∷ 4294967303 ∷ [])
+      ∷ table (4294967297 ∷ 5 ∷ 7 ∷ [])
       ∷ table (2 ∷ 5 ∷ 7 ∷ 5 ∷ 7 ∷ [])
       ∷ table (1 ∷ 5 ∷ 7 ∷ 0 ∷ 1 ∷ [])
       ∷ (0 ∷ replicate 63 0 ++ (256 ∷ []))
       ∷ [])
-      ≡ each (lent 7) (left 10 [] (lent 2) (0 ∷ 0 ∷ []))
+      ≡ each (lent 10) (left 10 [] (lent 2) (0 ∷ 0 ∷ []))
 
 -- An array that is one short is refused by 2 before all else, and nothing is written.
 pub record Short : Type 0 where

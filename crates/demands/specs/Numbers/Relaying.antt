@@ -9,7 +9,7 @@ use Rattle.relay.specs.Route.{Routing, routing, routes}
 use Rattle.relay.specs.declared.Entry.{Entry}
 use Rattle.relay.specs.declared.Table.{Table}
 use Rattle.relay.specs.declared.Routed.{Routed}
-use Rattle.demands.specs.Numbers.Samples.{lent, ten, seven}
+use Rattle.demands.specs.Numbers.Samples.{lent, ten, seven, each}
 
 abbrev pub entry : ℕ → ℕ → Entry
 entry apid destination = record { apid = apid; destination = destination }
@@ -26,6 +26,11 @@ abbrev pub many : ℕ → List Entry
 many zero = []
 many (suc n) = entry n 7 ∷ many n
 
+-- so many entries of APID 5, each with its own destination
+abbrev pub to : ℕ → List Entry
+to zero = []
+to (suc n) = entry 5 n ∷ to n
+
 -- APID 5 to 5, 0 and 1; APIDs 3, 2,032 and 2,046 to 9, 255 and 0
 abbrev pub six : List Entry
 six = entry 5 5 ∷ entry 3 9 ∷ entry 5 0 ∷ entry 2032 255 ∷ entry 5 1 ∷ entry 2046 0 ∷ []
@@ -39,6 +44,10 @@ pub record Tables : Type 0 where
   pub counts : map (λ (n : ℕ). loading empty n (many 33) .refusal) (0 ∷ 1 ∷ 32 ∷ 33 ∷ []) ≡ 0 ∷ 0 ∷ 0 ∷ 12 ∷ []
   pub apids : map (λ (a : ℕ). loading empty 2 (entry 1 1 ∷ entry a 0 ∷ []) .refusal) (0 ∷ 2031 ∷ 2032 ∷ 2046 ∷ 2047 ∷ 2048 ∷ 65535 ∷ [])
       ≡ 0 ∷ 0 ∷ 0 ∷ 0 ∷ 12 ∷ 12 ∷ 12 ∷ []
+  -- wherever it stands
+  pub places : map (λ (es : List Entry). loading empty 3 es .refusal)
+      ((entry 2047 0 ∷ entry 5 5 ∷ entry 6 6 ∷ []) ∷ (entry 5 5 ∷ entry 2048 0 ∷ entry 6 6 ∷ []) ∷ (entry 5 5 ∷ entry 6 6 ∷ entry 65535 0 ∷ []) ∷ [])
+      ≡ 12 ∷ 12 ∷ 12 ∷ []
   -- and for the same pair twice, beside another and apart; an APID twice and a destination twice are no such pair
   pub pairs : map (λ (es : List Entry). loading empty 3 es .refusal)
       ((entry 5 5 ∷ entry 5 5 ∷ entry 6 6 ∷ [])
@@ -84,6 +93,8 @@ pub record Ways : Type 0 where
   -- room is asked for this APID's destinations alone; type and secondary header do not count
   pub one : map (λ (p : List ℕ). routing 12 relay p (lent 1)) (packet 0x00 0x03 ∷ packet 0x1F 0xF0 ∷ packet 0x07 0xFE ∷ [])
       ≡ sends 1 (9 ∷ []) ∷ sends 1 (255 ∷ []) ∷ sends 1 (0 ∷ []) ∷ []
+  -- all entries of a table may be for one APID
+  pub most : map (λ (output : List ℕ). routing 12 (table 32 (to 32)) ten output .count) (lent 31 ∷ lent 32 ∷ lent 33 ∷ []) ≡ 0 ∷ 32 ∷ 32 ∷ []
   -- no path without room: an APID without an entry, an idle packet, encapsulation packets with the protocol 0 and 2; any packet with the empty table
   pub no-path : map (λ (p : List ℕ). routing 12 relay p []) (packet 0x00 0x04 ∷ packet 0x07 0xFF ∷ (0xE0 ∷ []) ∷ (0xE9 ∷ 0x02 ∷ []) ∷ [])
       ≡ nowhere [] ∷ nowhere [] ∷ nowhere [] ∷ nowhere [] ∷ []
@@ -93,7 +104,7 @@ pub record Ways : Type 0 where
       ≡ refuses 1 (lent 3) ∷ sends 3 (5 ∷ 0 ∷ 1 ∷ []) ∷ sends 3 (5 ∷ 0 ∷ 1 ∷ []) ∷ refuses 1 (lent 3) ∷ []
   pub unmade : routing 12 (table 1 (entry 2047 0 ∷ nothing 31)) (packet 0x07 0xFF) (lent 1) ≡ refuses 10 (lent 1)
   pub malformed : map (λ (p : List ℕ). routing 9 relay p (lent 3)) ([] ∷ packet 0x20 0x05 ∷ (seven ++ (0 ∷ [])) ∷ ten ∷ (0xE9 ∷ 0x03 ∷ []) ∷ (0xE9 ∷ 0x01 ∷ []) ∷ (0xEC ∷ []) ∷ [])
-      ≡ map (λ (p : ℕ). refuses 8 (lent 3)) (0 ∷ 1 ∷ 2 ∷ 3 ∷ 4 ∷ 5 ∷ 6 ∷ [])
+      ≡ each (lent 7) (refuses 8 (lent 3))
   pub no-room : routing 12 relay ten (lent 2) ≡ refuses 2 (lent 2)
   -- the order: all that is wrong at once, and then one thing after another put right
   pub order : routing 6 (table 33 six) (seven ++ (0 ∷ [])) [] .refusal

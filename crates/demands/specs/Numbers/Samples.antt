@@ -1,6 +1,6 @@
 -- The settings, frames and packets that the examples are made of.
 use Prim.Native.Nat.{ℕ}
-use mathlib.Core.List.{List, [], _∷_}
+use mathlib.Core.List.{List, [], _∷_, map}
 use lib.ListN.{replicate}
 use Rattle.frames.specs.declared.Settings.{Settings}
 use Rattle.frames.specs.declared.bits.BitSettings.{BitSettings}
@@ -54,3 +54,7 @@ ten = 0x00 ∷ 0x05 ∷ 0xC0 ∷ 0x00 ∷ 0x00 ∷ 0x03 ∷ 0xA1 ∷ 0xA2 ∷ 0x
 
 abbrev pub seven : List ℕ
 seven = 0x00 ∷ 0x05 ∷ 0xC0 ∷ 0x00 ∷ 0x00 ∷ 0x00 ∷ 0xA1 ∷ []
+
+-- the same for each of a list
+abbrev pub each : {A B : Type 0} → List A → B → List B
+each l b = map (λ a. b) l

@@ -13,9 +13,6 @@ use Rattle.relay.specs.declared.Entry.{Entry}
 use Rattle.relay.proofs.Turns.{slice-past, stands-at}
 use Rattle.relay.proofs.stands.Statement.{statement}
 use Rattle.relay.proofs.stands.Tie as tie
-use Rattle.relay.proofs.stands.Reads as reads
-use Rattle.relay.proofs.stands.Lts as lts
-use Rattle.relay.proofs.same.Reads as same-reads
 
 abbrev Inv-loop : tie.InvT-loop
 Inv-loop e from to entries i₀ i = stands e (slice from to entries) ≡ stands e (slice i to entries)
