@@ -33,6 +33,7 @@ unfoldable pub entry-numbers : List Entry → List ℕ
 entry-numbers [] = []
 entry-numbers (e ∷ es) = e .apid ∷ e .destination ∷ entry-numbers es
 
+-- a table in numbers
 unfoldable pub table-numbers : Table → List ℕ
 table-numbers t = t .count ∷ entry-numbers (t .entries)
 
@@ -60,6 +61,7 @@ load-leaves entries table =
 unfoldable pub route-numbers : Routing → List ℕ
 route-numbers r = r .outcome ∷ r .count ∷ []
 
+-- a table or an answer that is short is refused; then what routing answers
 unfoldable pub route-leaves : ℕ → List ℕ → List ℕ → List ℕ → List ℕ → Left
 route-leaves limit table packet destinations answer =
     let r : Routing = routing limit (table-of table) packet destinations in

@@ -48,6 +48,7 @@ pub record Routing : Type 0 where
 abbrev pub refused : ℕ → List ℕ → Routing
 refused n output = record { refusal = n; outcome = 0; count = 0; output = output }
 
+-- where there is no path nothing is written either
 abbrev pub no-path : List ℕ → Routing
 no-path output = record { refusal = 0; outcome = 1; count = 0; output = output }
 
@@ -60,7 +61,7 @@ written (d ∷ ds) output = record { refusal = 0; outcome = 2; count = length (d
 unfoldable pub handed : List ℕ → List ℕ → Routing
 handed ds output = pick (ltb (length output) (length ds)) (refused 2 output) (written ds output)
 
--- the rule
+-- the rule: what is not refused is written
 unfoldable pub routing : ℕ → Table → List ℕ → List ℕ → Routing
 routing limit t p output =
     let refusal : ℕ = first (route-rows limit t p (length output)) in

@@ -13,6 +13,7 @@ use Rattle.relay.specs.declared.Loaded.{Loaded}
 abbrev pub pair : ℕ → ℕ → Entry
 pair apid destination = record { apid = apid; destination = destination }
 
+-- whether two entries are the same pair
 unfoldable pub same : Entry → Entry → Bool
 same a b = and (eqb (a .apid) (b .apid)) (eqb (a .destination) (b .destination))
 
@@ -47,6 +48,7 @@ no-entry = pair 0 0
 unfoldable pub table-of : List Entry → Table
 table-of es = record { count = length es; entries = es ++ replicate (32 - length es) no-entry }
 
+-- the table that has no entry
 abbrev pub empty : Table
 empty = table-of []
 

@@ -128,7 +128,8 @@ pub record Relay : Type 0 where
   pub no-table : map (λ (es : List ℕ). load-leaves es paths) ((2047 ∷ 0 ∷ []) ∷ (65536 ∷ 0 ∷ []) ∷ (4294967301 ∷ 7 ∷ 5 ∷ 9 ∷ []) ∷ (5 ∷ 7 ∷ 5 ∷ 7 ∷ []) ∷ many 33 [] ∷ []) ≡ each (lent 5) (left 12 paths [] [])
   pub no-destination : map (λ (es : List ℕ). load-leaves es paths) ((2047 ∷ 256 ∷ []) ∷ (5 ∷ 256 ∷ 6 ∷ 7 ∷ []) ∷ (5 ∷ 4294967303 ∷ []) ∷ many 33 (5 ∷ 256 ∷ []) ∷ []) ≡ each (lent 4) (left 1 paths [] [])
   pub path : route-leaves 12 paths ten (lent 3) (lent 3) ≡ left 0 [] (7 ∷ 2 ∷ 0xFF ∷ []) (2 ∷ 2 ∷ 0xFF ∷ [])
-  pub no-path : route-leaves 12 paths (0xE0 ∷ []) [] (lent 2) ≡ left 0 [] [] (1 ∷ 0 ∷ [])
+  -- all zeros are the table that a caller starts with
+  pub no-path : route-leaves 12 paths (0xE0 ∷ []) [] (lent 2) ∷ route-leaves 12 (table []) ten [] (lent 2) ∷ [] ≡ each (lent 2) (left 0 [] [] (1 ∷ 0 ∷ []))
   pub no-room : route-leaves 12 paths ten (lent 1) (lent 2) ≡ left 2 [] (lent 1) (0 ∷ 0 ∷ [])
   -- 1 and 8 in their turn; 10 for more entries than 32, an APID above 2,046, a destination above 255, the same pair twice, and a number past the entries
   pub refused : route-leaves 6 paths ten (lent 2) (lent 2) ∷ route-leaves 4294967308 paths ten (lent 2) (lent 2) ∷ route-leaves 12 paths (0xEC ∷ []) (lent 2) (lent 2) ∷ []
