@@ -49,15 +49,21 @@ octet-lt [] small i = omega arith
 octet-lt (o ∷ os) small zero = small .0
 octet-lt (o ∷ os) small (suc i) = octet-lt os (small .1) i
 
+pub all-of-front {ℓ} : {A : Type ℓ} (P : A → Type 0) (n : ℕ) (xs : List A) → All P xs → All P (take n xs)
+all-of-front P zero xs h = tt
+all-of-front P (suc n) [] h = tt
+all-of-front P (suc n) (x ∷ xs) h = (h .0, all-of-front P n xs (h .1))
+
 pub all-take : (n : ℕ) (os : List ℕ) → AllOctets os → AllOctets (take n os)
-all-take zero os small = tt
-all-take (suc n) [] small = tt
-all-take (suc n) (o ∷ os) small = (small .0, all-take n os (small .1))
+all-take = all-of-front (λ o. o < 256)
+
+pub all-of-rest {ℓ} : {A : Type ℓ} (P : A → Type 0) (n : ℕ) (xs : List A) → All P xs → All P (drop n xs)
+all-of-rest P zero xs h = h
+all-of-rest P (suc n) [] h = tt
+all-of-rest P (suc n) (x ∷ xs) h = all-of-rest P n xs (h .1)
 
 pub all-drop : (n : ℕ) (os : List ℕ) → AllOctets os → AllOctets (drop n os)
-all-drop zero os small = small
-all-drop (suc n) [] small = tt
-all-drop (suc n) (o ∷ os) small = all-drop n os (small .1)
+all-drop = all-of-rest (λ o. o < 256)
 
 pub all-joined {ℓ} : {A : Type ℓ} (P : A → Type 0) (xs ys : List A) → All P xs → All P ys → All P (xs ++ ys)
 all-joined P [] ys h k = k
@@ -66,9 +72,12 @@ all-joined P (x ∷ xs) ys h k = (h .0, all-joined P xs ys (h .1) k)
 pub all-append : (xs ys : List ℕ) → AllOctets xs → AllOctets ys → AllOctets (xs ++ ys)
 all-append = all-joined (λ o. o < 256)
 
+pub all-same {ℓ} : {A : Type ℓ} (P : A → Type 0) (n : ℕ) {x : A} → P x → All P (replicate n x)
+all-same P zero h = tt
+all-same P (suc n) h = (h, all-same P n h)
+
 pub all-filled : (n : ℕ) {o : ℕ} → o < 256 → AllOctets (replicate n o)
-all-filled zero small = tt
-all-filled (suc n) small = (small, all-filled n small)
+all-filled = all-same (λ o. o < 256)
 
 pub all-zeros : (n : ℕ) → AllOctets (replicate n 0)
 all-zeros n = all-filled n (omega arith)

@@ -1,0 +1,12 @@
+pub mod Moves
+pub mod LongDivision
+pub mod Table
+pub mod Remainders
+pub mod Right
+pub mod Setting
+pub mod Linear
+pub mod Printed
+pub mod Bursts
+pub mod Odd
+pub mod Few
+pub mod Vectors
