@@ -1,32 +1,42 @@
 -- What a frame that is not refused is like: its length, its zone, its pointer.
 -- Assumes nothing.
-use mathlib.Core.Path.{_≡_, refl}
+use mathlib.Core.Path.{_≡_, refl, sym, ap, _∙_}
 use mathlib.Core.List.{List}
 use mathlib.Core.Bool.{true, false}
-use Prim.Native.Nat.{ℕ, _<_, _^_}
+use Prim.Native.Nat.{ℕ, _+_, _-_, _≤_, _<_, _^_}
 use native.Mathlib.Omega.{arith}
-use lib.ListN.{length, drop, length-drop}
+use lib.ListN.{length, take, drop, length-drop}
+use lib.Seq.{take-add, drop-at, take-take, drop-drop, length-take-le}
 use lib.Dec.{leb, eqb}
 use borrow.Author.Tests.{leb-false, eqb-true, eqb-false}
 use Rattle.octets.specs.Basics.{first}
 use Rattle.octets.proofs.Choices.{refusal-kept}
+use Rattle.octets.proofs.Written.{length-run}
 use Rattle.words.proofs.Fields.{field-lt}
 use Rattle.octets.proofs.Tests.{test}
 use Rattle.frames.specs.Link.{zone-at, zone-head}
 use Rattle.frames.specs.Frame.{idle-zone, no-start, in-range, packet-shape, frame-length, frame-rows, zone-of, count, replay, pointer, unused, heading-rows, heading, heading-of}
 use Rattle.frames.specs.declared.Settings.{Settings}
 use Rattle.frames.specs.declared.Heading.{Heading}
-use Rattle.frames.proofs.ReadBack.{shape-zone-is}
 use Rattle.frames.proofs.Rows.{sound-frame}
 
--- the zone of a frame of the right length is all that follows its head
-pub zone-is : (s : Settings) (f : List ℕ) → length f ≡ frame-length s → zone-of s f ≡ drop (zone-at (s .link)) f
-unfolding zone-of frame-length
-zone-is s = shape-zone-is (packet-shape s)
-
 pub length-zone : (s : Settings) (f : List ℕ) → length f ≡ frame-length s → length (zone-of s f) ≡ s .zone
-unfolding frame-length
-length-zone s f e = rw (zone-is s f e) (simp length-drop (omega arith))
+unfolding zone-of frame-length
+length-zone s f e = length-run f (zone-at (s .link)) (s .zone) (omega arith)
+
+-- a part of the zone is that part of the frame, behind the headers
+pub zone-part : (s : Settings) (f : List ℕ) → length f ≡ frame-length s → (at l : ℕ) → at + l ≤ s .zone
+    → take l (drop at (zone-of s f)) ≡ take l (drop (zone-at (s .link) + at) f)
+unfolding zone-of frame-length
+zone-part s f e at l h =
+    let x : List ℕ = drop (zone-at (s .link)) f in
+    let whole : at + (s .zone - at) ≡ s .zone = omega arith in
+    let room : at ≤ length (drop (zone-at (s .link)) f) = simp length-drop (omega arith) in
+    ap (λ (n : ℕ). take l (drop at (take n x))) (sym whole)
+    ∙ ap (λ (xs : List ℕ). take l (drop at xs)) (take-add at (s .zone - at) x)
+    ∙ ap (take l) (drop-at (take at x) (take (s .zone - at) (drop at x)) at (length-take-le at x room))
+    ∙ take-take l (s .zone - at) (drop at x) (omega arith)
+    ∙ ap (take l) (drop-drop at (zone-at (s .link)) f)
 
 -- what the pointer of a frame that is not refused can be
 pub data Pointed (s : Settings) (f : List ℕ) : Type 0 where

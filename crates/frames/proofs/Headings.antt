@@ -2,7 +2,7 @@
 -- Assumes nothing.
 use mathlib.Core.Path.{_≡_, refl, sym, _∙_}
 use mathlib.Core.List.{List}
-use mathlib.Core.Bool.{true}
+use mathlib.Core.Bool.{true, false}
 use Prim.Native.Nat.{ℕ, suc, _-_, _^_, _≤_, _<_}
 use native.Mathlib.Nat.{zero-mod, le-refl}
 use lib.Pow.{pow-mono}
@@ -15,6 +15,7 @@ use Rattle.words.specs.Fields.{field, placed}
 use Rattle.octets.proofs.Choices.{split}
 use Rattle.words.proofs.Fields.{above-past, field-rest, field-lt, foot-lt, foot-only}
 use Rattle.octets.proofs.Numbers.{number-within}
+use Rattle.trailer.specs.Trailer.{wrong}
 use Rattle.frames.specs.Link.{primary, zone-head}
 use Rattle.frames.specs.Shape.{shape-length, both-rows, shape-rows, heading-by, shape-heading}
 use Rattle.frames.specs.declared.Link.{Link}
@@ -55,10 +56,10 @@ module _ (l : Link) (f : List ℕ) (room : 8 ≤ length f) where
   unfolding zone-head
   zone-head-at = number-within 2 6 f room
 
--- the heading of a frame of the right length, by both headers' numbers
-pub heading-reads : (h : Shape) (f : List ℕ) {head zone : ℕ} → eqb (length f) (shape-length h) ≡ true → head ≡ number-at 6 0 f → zone ≡ number-at 2 6 f
+-- the heading of a frame of the right length and with the right trailer, by both headers' numbers
+pub heading-reads : (h : Shape) (f : List ℕ) {head zone : ℕ} → eqb (length f) (shape-length h) ≡ true → wrong (h .link .trailed) f ≡ false → head ≡ number-at 6 0 f → zone ≡ number-at 2 6 f
     → heading-by h (first (both-rows h head zone)) head zone ≡ shape-heading h (shape-rows h f) f
 unfolding first
-heading-reads h f e p z =
+heading-reads h f e right p z =
     let room : 8 ≤ length f = omega (arith, eqb-true (length f) (shape-length h) e) in
-    rw (e, p, z, primary-at (h .link) f room, zone-head-at (h .link) f room) refl
+    rw (e, right, p, z, primary-at (h .link) f room, zone-head-at (h .link) f room) refl

@@ -16,7 +16,9 @@ use Rattle.words.specs.declared.Place.{Place}
 use Rattle.words.proofs.Fields.{placed-read, placed-below, placed-lt, placed-within, field-lt, agree-on, foot-read, foot-above, foot-lt, foot-only}
 use Rattle.octets.proofs.Numbers.{number-octets, octets-again, run-lt}
 use Rattle.octets.proofs.Written.{length-octets}
-use Rattle.frames.specs.Link.{head-word, headers, zone-at, primary, zone-head, version-place, spacecraft-place, channel-place, count-place, replay-place, spare-place, count-width}
+use Rattle.trailer.specs.Trailer.{sent, wrong}
+use Rattle.trailer.proofs.Setting.{right-sent}
+use Rattle.frames.specs.Link.{head-word, headers, around, primary, zone-head, version-place, spacecraft-place, channel-place, count-place, replay-place, spare-place, count-width}
 use Rattle.frames.specs.Shape.{shape-length, shape-zone, pointer-at, spare-above, shape-unused, shape-rows, word-of}
 use Rattle.frames.specs.Frame.{in-range, packet-shape, frame-rows, zone-of, count, replay, zone-spare-place, pointer, pointer-place, pointer-word, head}
 use Rattle.frames.specs.Statements.{HeadersBack}
@@ -219,15 +221,11 @@ headers-again l f width spare unused bounds o room narrow h clear =
 
 -- ---- frames of a shape
 
--- the zone of a frame of the right length is all that follows its headers
-pub shape-zone-is : (h : Shape) (f : List ℕ) → length f ≡ shape-length h → shape-zone h f ≡ drop (zone-at (h .link)) f
-shape-zone-is h f e = take-all (h .size) (drop (zone-at (h .link)) f) (simp length-drop (omega arith))
-
--- a frame of the right length whose headers are read back is not refused, where its pointer is one that is used
+-- a frame of the right length and with the right trailer whose headers are read back is not refused, where its pointer is one that is used
 pub shape-taken : (h : Shape) {c p : ℕ} {f : List ℕ} → HeadersBack (h .link) (spare-above (h .width)) (pointer-at (h .width)) c p f
-    → length f ≡ shape-length h → shape-unused h p ≡ false → first (shape-rows h f) ≡ 0
+    → length f ≡ shape-length h → wrong (h .link .trailed) f ≡ false → shape-unused h p ≡ false → first (shape-rows h f) ≡ 0
 unfolding first
-shape-taken h back long used = rw (eq-eqb _ _ long) (header-taken (h .link) _ _ _ (back-sound (shape-unused h) back used))
+shape-taken h back long right used = rw (eq-eqb _ _ long, right) (header-taken (h .link) _ _ _ (back-sound (shape-unused h) back used))
 
 -- the headers of a frame, written again from what is read
 abbrev headers-of : Shape → List ℕ → List ℕ
@@ -235,14 +233,17 @@ headers-of h f =
     let head : ℕ = primary (h .link) f in
     headers (h .link) (read count-place head) (read replay-place head) (word-of (h .width) (read (pointer-at (h .width)) (zone-head (h .link) f)))
 
--- a frame that is not refused is these and its zone
+-- a frame that is not refused is these and its zone, sent
 pub shape-again : (h : Shape) (f : List ℕ) → Linked (h .link) → h .width ≤ 16 → AllOctets f → first (shape-rows h f) ≡ 0
-    → f ≡ headers-of h f ++ shape-zone h f
+    → f ≡ sent (h .link .trailed) (headers-of h f ++ shape-zone h f)
 shape-again h f bounds narrow o e =
     let sound = sound-frame h f e in
-    let long : length f ≡ h .size + 8 = sound .length-right in
-    headers-again (h .link) f (h .width) _ _ bounds o (omega arith) narrow (sound .header) (sound .header .zone-spare-clear)
-    ∙ ap (headers-of h f ++_) (sym (shape-zone-is h f long))
+    let long : length f ≡ h .size + around (h .link) = sound .length-right in
+    let again : f ≡ headers-of h f ++ drop 8 f =
+    headers-again (h .link) f (h .width) _ _ bounds o (omega arith) narrow (sound .header) (sound .header .zone-spare-clear) in
+    let front : take 8 f ≡ headers-of h f = ap (take 8) again ∙ take-at (headers-of h f) (drop 8 f) 8 (length-headers (h .link) _ _ _) in
+    right-sent (h .link .trailed) f (8 + h .size) o (omega arith) (sound .trailer-right)
+    ∙ ap (sent (h .link .trailed)) (take-add 8 (h .size) f ∙ ap (_++ shape-zone h f) front)
 
 -- ---- packet channels
 
@@ -256,6 +257,6 @@ unfolding head
 head-back s c p f ok = headers-back (s .link) 11 c p f (settled s ok .on-link) (omega arith)
 
 pub frame-again : (s : Settings) (f : List ℕ) → in-range s ≡ true → AllOctets f → first (frame-rows s f) ≡ 0
-    → f ≡ headers (s .link) (count s f) (replay s f) (pointer-word (pointer s f)) ++ zone-of s f
+    → f ≡ sent (s .link .trailed) (headers (s .link) (count s f) (replay s f) (pointer-word (pointer s f)) ++ zone-of s f)
 unfolding frame-rows zone-of
 frame-again s f ok = shape-again (packet-shape s) f (settled s ok .on-link) (omega arith)

@@ -9,6 +9,7 @@ use borrow.Author.Tests.{eq-eqb, eqb-true, not-false}
 use Rattle.octets.specs.Basics.{pick, Row, row, first}
 use Rattle.words.specs.Fields.{read}
 use Rattle.octets.proofs.Choices.{and-true, none-holds}
+use Rattle.trailer.specs.Trailer.{wrong}
 use Rattle.frames.specs.Link.{primary, zone-head, header-rows, version-place, spacecraft-place, channel-place, spare-place}
 use Rattle.frames.specs.Shape.{shape-length, spare-above, pointer-at, shape-unused, shape-rows}
 use Rattle.frames.specs.declared.Link.{Link}
@@ -61,9 +62,11 @@ SoundFields h head zone =
 
 pub record SoundFrame (h : Shape) (f : List ℕ) : Type 0 where
   pub length-right : length f ≡ shape-length h
+  pub trailer-right : wrong (h .link .trailed) f ≡ false
   pub header : SoundFields h (primary (h .link) f) (zone-head (h .link) f)
 
 pub sound-frame : (h : Shape) (f : List ℕ) → first (shape-rows h f) ≡ 0 → SoundFrame h f
 sound-frame h f e =
     let n = none-holds 2 _ _ e in
-    record { length-right = eqb-true _ _ (not-false _ (n .0)); header = sound-header _ _ _ _ (n .1) }
+    let t = none-holds 12 _ _ (n .1) in
+    record { length-right = eqb-true _ _ (not-false _ (n .0)); trailer-right = t .0; header = sound-header _ _ _ _ (t .1) }

@@ -8,6 +8,7 @@ use lib.Dec.{leb, ltb, eqb}
 use Rattle.octets.specs.Basics.{and, number, octets, Row, row}
 use Rattle.words.specs.Fields.{read, write}
 use Rattle.words.specs.declared.Place.{Place}
+use Rattle.trailer.specs.Trailer.{extra, wrong}
 use Rattle.frames.specs.declared.Link.{Link}
 
 -- spacecraft 0 to 255, channel 0 to 62
@@ -37,6 +38,10 @@ spare-place = record { below = 0; width = 7 }
 abbrev pub zone-at : Link → ℕ
 zone-at l = 8
 
+-- what a frame has around its zone: the headers before it and, where the channel has one, the trailer behind it
+abbrev pub around : Link → ℕ
+around l = zone-at l + extra (l .trailed)
+
 -- the two headers as numbers
 unfoldable pub primary : Link → List ℕ → ℕ
 primary l f = number (take 6 f)
@@ -44,7 +49,11 @@ primary l f = number (take 6 f)
 unfoldable pub zone-head : Link → List ℕ → ℕ
 zone-head l f = number (take 2 (drop 6 f))
 
--- what the rows after the length's look at: the frame's own header, the zone's spare bits, and whether the pointer is one that is not used
+-- the trailer is not that of the octets before it
+abbrev pub trailer-row : Link → List ℕ → Row
+trailer-row l f = row 13 (wrong (l .trailed) f)
+
+-- what the rows after the trailer's look at: the frame's own header, the zone's spare bits, and whether the pointer is one that is not used
 unfoldable pub header-rows : Link → ℕ → ℕ → Bool → List Row
 header-rows l head zone-spare unused =
     row 4 (not (eqb (read version-place head) 1))

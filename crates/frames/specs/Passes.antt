@@ -1,6 +1,7 @@
 -- The header parts of sample passes 5 and 13: which pointers are refused.
 use mathlib.Core.Path.{_≡_}
 use mathlib.Core.List.{List, [], _∷_}
+use mathlib.Core.Bool.{false}
 use Prim.Native.Nat.{ℕ}
 use Rattle.octets.specs.Basics.{first}
 use Rattle.frames.specs.Frame.{frame-rows}
@@ -10,7 +11,7 @@ use Rattle.frames.specs.declared.bits.BitSettings.{BitSettings}
 
 -- Z = 10, M = 1,024
 abbrev pub channel-3 : Settings
-channel-3 = record { link = record { spacecraft = 66; channel = 3 }; zone = 10; limit = 1024; fill = 0x55 }
+channel-3 = record { link = record { spacecraft = 66; channel = 3; trailed = false }; zone = 10; limit = 1024; fill = 0x55 }
 
 -- the sample's second frame with another pointer
 abbrev pub pointing : ℕ → List ℕ
@@ -24,7 +25,7 @@ pub record Pass5 : Type 0 where
 
 -- W = 1
 abbrev pub one-octet : BitSettings
-one-octet = record { link = record { spacecraft = 66; channel = 3 }; width = 1; fill = 0x55 }
+one-octet = record { link = record { spacecraft = 66; channel = 3; trailed = false }; width = 1; fill = 0x55 }
 
 -- a frame of one octet with these two octets before the zone
 abbrev pub bits-pointing : ℕ → ℕ → List ℕ

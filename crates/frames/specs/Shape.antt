@@ -8,19 +8,19 @@ use lib.Dec.{leb, ltb, eqb}
 use Rattle.octets.specs.Basics.{pick, and, Row, row, first}
 use Rattle.words.specs.Fields.{read, write}
 use Rattle.words.specs.declared.Place.{Place}
-use Rattle.frames.specs.Link.{zone-at, primary, zone-head, count-place, replay-place, header-rows, written-rows, headers}
+use Rattle.frames.specs.Link.{zone-at, around, trailer-row, primary, zone-head, count-place, replay-place, header-rows, written-rows, headers}
 use Rattle.frames.specs.declared.Link.{Link}
 use Rattle.frames.specs.declared.Heading.{Heading}
 use Rattle.frames.specs.declared.shape.Shape.{Shape}
 
--- the octets of a frame are its zone's and its headers'
+-- the octets of a frame are its zone's and those around it
 abbrev pub octets-of : Link → ℕ → ℕ
-octets-of l size = size + zone-at l
+octets-of l size = size + around l
 
 abbrev pub shape-length : Shape → ℕ
 shape-length h = octets-of (h .link) (h .size)
 
--- the zone is what follows the headers
+-- the zone is so many octets behind the headers
 abbrev pub shape-zone : Shape → List ℕ → List ℕ
 shape-zone h f = take (h .size) (drop (zone-at (h .link)) f)
 
@@ -35,14 +35,17 @@ spare-above width = record { below = width; width = 16 - width }
 abbrev pub shape-unused : Shape → ℕ → Bool
 shape-unused h p = and (leb (h .beyond) p) (leb p (h .last))
 
--- what the rows after the length's say, by the numbers of both headers
+-- what the rows after the trailer's say, by the numbers of both headers
 abbrev pub both-rows : Shape → ℕ → ℕ → List Row
 both-rows h head zone =
     header-rows (h .link) head (read (spare-above (h .width)) zone) (shape-unused h (read (pointer-at (h .width)) zone))
 
 -- what a frame to be read is refused for, in order
 abbrev pub shape-rows : Shape → List ℕ → List Row
-shape-rows h f = row 3 (not (eqb (length f) (shape-length h))) ∷ both-rows h (primary (h .link) f) (zone-head (h .link) f)
+shape-rows h f =
+    row 3 (not (eqb (length f) (shape-length h)))
+    ∷ trailer-row (h .link) f
+    ∷ both-rows h (primary (h .link) f) (zone-head (h .link) f)
 
 -- a refusal alone
 abbrev pub no-heading : ℕ → Heading

@@ -7,6 +7,7 @@ use lib.ListN.{take}
 use Rattle.octets.specs.Basics.{AllOctets, first}
 use Rattle.words.specs.Fields.{read}
 use Rattle.words.specs.declared.Place.{Place}
+use Rattle.trailer.specs.Trailer.{sent}
 use Rattle.frames.specs.Link.{zone-at, primary, zone-head, version-place, spacecraft-place, channel-place, count-place, replay-place, spare-place, count-width, headers}
 use Rattle.frames.specs.Frame.{in-range, frame-rows, zone-of, count, replay, zone-spare-place, pointer-place, pointer, pointer-word, head}
 use Rattle.frames.specs.BitFrame.{bits-in-range, bit-frame-rows, bit-zone-of, bit-count, bit-replay, bit-spare-place, bit-pointer-place, bit-pointer, bit-pointer-word, bit-head}
@@ -26,13 +27,13 @@ pub record HeadersBack (l : Link) (zone-spare-at pointer-at : Place) (c p : ℕ)
   pub pointer-back : read pointer-at (zone-head l f) ≡ p
 
 -- a frame that begins with written headers is read back; and a frame that is not refused is its headers, written again from what
--- is read, and its zone: for both channels
+-- is read, and its zone, sent with their trailer where the channel has one: for both channels
 pub record HeadersRead : Type 0 where
   pub back : (s : Settings) (c p : ℕ) (f : List ℕ) → in-range s ≡ true → c < 2 ^ count-width (s .link) → p < 2 ^ 11
       → take (zone-at (s .link)) f ≡ head s c p → HeadersBack (s .link) zone-spare-place pointer-place c p f
   pub again : (s : Settings) (f : List ℕ) → in-range s ≡ true → AllOctets f → first (frame-rows s f) ≡ 0
-      → f ≡ headers (s .link) (count s f) (replay s f) (pointer-word (pointer s f)) ++ zone-of s f
+      → f ≡ sent (s .link .trailed) (headers (s .link) (count s f) (replay s f) (pointer-word (pointer s f)) ++ zone-of s f)
   pub bits-back : (s : BitSettings) (c p : ℕ) (f : List ℕ) → bits-in-range s ≡ true → c < 2 ^ count-width (s .link) → p < 2 ^ 14
       → take (zone-at (s .link)) f ≡ bit-head s c p → HeadersBack (s .link) bit-spare-place bit-pointer-place c p f
   pub bits-again : (s : BitSettings) (f : List ℕ) → bits-in-range s ≡ true → AllOctets f → first (bit-frame-rows s f) ≡ 0
-      → f ≡ headers (s .link) (bit-count s f) (bit-replay s f) (bit-pointer-word (bit-pointer s f)) ++ bit-zone-of s f
+      → f ≡ sent (s .link .trailed) (headers (s .link) (bit-count s f) (bit-replay s f) (bit-pointer-word (bit-pointer s f)) ++ bit-zone-of s f)

@@ -56,14 +56,14 @@ fn shape_of(s: BitSettings) -> Shape
 pub fn has_length(s: BitSettings, len: usize) -> bool
     ensures { λ r. ⌜ r ≡ eqb len (bit-frame-length s) ⌝ }
 {
-    shape::has_length(s.width, len)
+    shape::has_length(s.link, s.width, len)
 }
 
 // Whether so many octets are less than a frame of these settings.
 pub fn is_short(s: BitSettings, len: usize) -> bool
     ensures { λ r. ⌜ r ≡ ltb len (bit-frame-length s) ⌝ }
 {
-    shape::is_short(s.width, len)
+    shape::is_short(s.link, s.width, len)
 }
 
 // What the header of a frame says, or what the frame is refused for.

@@ -11,10 +11,11 @@ use shape::Shape;
 pub mod bits;
 mod shape;
 
-// The spacecraft and the channel that every frame of a link names.
+// The spacecraft and the channel that every frame of a link names, and whether each ends with a trailer.
 pub struct Link {
     pub spacecraft: u32,
     pub channel: u32,
+    pub trailed: bool,
 }
 
 // The settings of one packet channel: Z, M and the octet that fills what no packet takes.
@@ -87,14 +88,14 @@ fn shape_of(s: Settings) -> Shape
 pub fn has_length(s: Settings, len: usize) -> bool
     ensures { λ r. ⌜ r ≡ eqb len (frame-length s) ⌝ }
 {
-    shape::has_length(s.zone, len)
+    shape::has_length(s.link, s.zone, len)
 }
 
 // Whether so many octets are less than a frame of these settings.
 pub fn is_short(s: Settings, len: usize) -> bool
     ensures { λ r. ⌜ r ≡ ltb len (frame-length s) ⌝ }
 {
-    shape::is_short(s.zone, len)
+    shape::is_short(s.link, s.zone, len)
 }
 
 // What the header of a frame says, or what the frame is refused for.

@@ -4,7 +4,7 @@ ghost use mathlib.Core.Bool.{true};
 ghost use Prim.Native.Nat.{_^_};
 ghost use lib.Dec.{ltb, eqb};
 ghost use Rattle.octets.specs.Basics.{pick, first, over};
-ghost use Rattle.frames.specs.Link.{head-word};
+ghost use Rattle.frames.specs.Link.{around, head-word};
 ghost use Rattle.frames.specs.Shape.{octets-of, pointer-at, shape-unused, both-rows, shape-rows, no-heading, heading-by, shape-heading, shape-head, shape-head-rows};
 ghost use Rattle.frames.specs.declared.Link.{Link};
 use super::Heading;
@@ -48,21 +48,30 @@ const REPLAY: Place = Place { below: 7, width: 1 };
 
 const SPARE: Place = Place { below: 0, width: 7 };
 
-// Whether a frame with so many octets in its zone has so many octets, on any link.
-pub(crate) fn has_length(size: usize, len: usize) -> bool
-    ensures { λ r. ⌜ ((l : Link) → r ≡ eqb len (octets-of l size)) ⌝ }
+// How many octets a frame has around its zone.
+fn around(l: Link) -> usize
+    ensures { λ r. ⌜ r ≡ around l ⌝ }
 {
-    ZONE_AT <= len && len - ZONE_AT == size
+    ZONE_AT + trailer::extra(l.trailed)
 }
 
-// Whether so many octets are less than a frame with so many octets in its zone, on any link.
-pub(crate) fn is_short(size: usize, len: usize) -> bool
-    ensures { λ r. ⌜ ((l : Link) → r ≡ ltb len (octets-of l size)) ⌝ }
+// Whether a frame with so many octets in its zone has so many octets.
+pub(crate) fn has_length(l: Link, size: usize, len: usize) -> bool
+    ensures { λ r. ⌜ r ≡ eqb len (octets-of l size) ⌝ }
 {
-    if len < ZONE_AT {
+    let around = around(l);
+    around <= len && len - around == size
+}
+
+// Whether so many octets are less than a frame with so many octets in its zone.
+pub(crate) fn is_short(l: Link, size: usize, len: usize) -> bool
+    ensures { λ r. ⌜ r ≡ ltb len (octets-of l size) ⌝ }
+{
+    let around = around(l);
+    if len < around {
         return true;
     }
-    len - ZONE_AT < size
+    len - around < size
 }
 
 // Where the pointer stands in the zone's header.
@@ -144,8 +153,11 @@ fn heading(h: Shape, head: u64, zone: u16) -> Heading
 pub(crate) fn read_head(h: Shape, frame: &[u8]) -> Heading
     ensures { λ r. ⌜ r ≡ shape-heading h (shape-rows h (now (frame .entry))) (now (frame .entry)) ⌝ }
 {
-    if !has_length(h.size, frame.len()) {
+    if !has_length(h.link, h.size, frame.len()) {
         return refused(refusals::LENGTH);
+    }
+    if trailer::is_wrong(h.link.trailed, frame) {
+        return refused(refusals::TRAILER);
     }
     heading(h, octets::number6(frame, 0), octets::number2(frame, 6))
 }

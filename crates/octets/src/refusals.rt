@@ -35,3 +35,6 @@ pub const FRAMES: u8 = 11;
 
 // A relay table has too many entries, an APID that no entry has, or the same entry twice.
 pub const TABLE: u8 = 12;
+
+// A frame's trailer is not the remainder of the octets before it.
+pub const TRAILER: u8 = 13;

@@ -7,6 +7,7 @@ use Prim.Native.Nat.{ℕ, _^_, _≤_, _<_}
 use native.Mathlib.Omega.{arith}
 use lib.ListN.{length, take}
 use Rattle.octets.specs.Basics.{AllOctets, first}
+use Rattle.trailer.specs.Trailer.{sent, wrong}
 use Rattle.frames.specs.Link.{headers, count-width}
 use Rattle.frames.specs.BitFrame.{bits-in-range, bits-shape, bit-frame-length, bit-frame-rows, bit-zone-of, bit-count, bit-replay, bit-spare-place, bit-pointer, bit-pointer-place, bit-unused, bit-head, bit-head-rows, bit-pointer-word}
 use Rattle.frames.specs.Statements.{HeadersBack}
@@ -31,9 +32,9 @@ pub bit-head-back : (s : BitSettings) (c p : ℕ) (f : List ℕ) → bits-in-ran
 unfolding bit-head
 bit-head-back s c p f ok = headers-back (s .link) 14 c p f (bits-settled s ok .on-link) (omega arith)
 
--- and it is not refused, where its length is right and its pointer one that is used
+-- and it is not refused, where its length and its trailer are right and its pointer one that is used
 pub bit-frame-taken : (s : BitSettings) {c p : ℕ} {f : List ℕ} → HeadersBack (s .link) bit-spare-place bit-pointer-place c p f
-    → length f ≡ bit-frame-length s → bit-unused s p ≡ false → first (bit-frame-rows s f) ≡ 0
+    → length f ≡ bit-frame-length s → wrong (s .link .trailed) f ≡ false → bit-unused s p ≡ false → first (bit-frame-rows s f) ≡ 0
 unfolding bit-frame-rows bit-frame-length bit-unused
 bit-frame-taken s = shape-taken (bits-shape s)
 
@@ -48,8 +49,8 @@ sound-bits s f e =
     let sound = sound-frame (bits-shape s) f e in
     record { length-right = sound .length-right; pointer-used = sound .header .pointer-used }
 
--- a frame that is not refused is its headers, written again from what is read, and its zone
+-- a frame that is not refused is its headers, written again from what is read, and its zone, sent
 pub bit-frame-again : (s : BitSettings) (f : List ℕ) → BitsSettled s → AllOctets f → first (bit-frame-rows s f) ≡ 0
-    → f ≡ headers (s .link) (bit-count s f) (bit-replay s f) (bit-pointer-word (bit-pointer s f)) ++ bit-zone-of s f
+    → f ≡ sent (s .link .trailed) (headers (s .link) (bit-count s f) (bit-replay s f) (bit-pointer-word (bit-pointer s f)) ++ bit-zone-of s f)
 unfolding bit-frame-rows bit-zone-of
 bit-frame-again s f range = shape-again (bits-shape s) f (range .on-link) (omega arith)

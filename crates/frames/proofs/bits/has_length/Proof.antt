@@ -6,7 +6,7 @@ use Rattle.frames.proofs.bits.has_length.Tie as tie
 
 returns : tie.Need-returns
 unfolding bit-frame-length
-returns c = c .has-length .ensures (c .before .args .s .link)
+returns c = c .has-length .ensures
 
 pub has-length-spec : {M : Type 1} → statement M
 has-length-spec = tie.close (tie.spec (λ c κs. tt) returns)

@@ -6,7 +6,7 @@ use Rattle.frames.proofs.bits.is_short.Tie as tie
 
 returns : tie.Need-returns
 unfolding bit-frame-length
-returns c = c .is-short .ensures (c .before .args .s .link)
+returns c = c .is-short .ensures
 
 pub is-short-spec : {M : Type 1} → statement M
 is-short-spec = tie.close (tie.spec (λ c κs. tt) returns)

@@ -5,16 +5,23 @@ use Prim.Native.Nat.{suc, _+_, _-_}
 use native.Mathlib.Omega.{arith}
 use borrow.Author.Tests.{lt-ltb}
 use Rattle.octets.proofs.Choices.{leb-iff}
+use Rattle.frames.specs.Link.{around}
 use Rattle.frames.proofs.shape.is_short.Statement.{statement}
 use Rattle.frames.proofs.shape.is_short.Tie as tie
 
 returns : tie.Need-returns
-returns c = λ l. sym (lt-ltb (c .before .args .len) (c .before .args .size + 8) (omega arith))
+returns c =
+    let at = c .before in
+    let a = at .before .args in
+    let e = at .around .ensures in
+    sym (lt-ltb (a .len) (a .size + around (a .l)) (omega arith))
 
 returns-2 : tie.Need-returns-2
 returns-2 c =
-    let a = c .before .args in
-    λ l. leb-iff (suc (a .len - 8)) (a .size) (suc (a .len)) (a .size + 8) (λ h. omega arith) (λ h. omega arith)
+    let at = c .before in
+    let a = at .before .args in
+    let e = at .around .ensures in
+    leb-iff (suc (a .len - at .around .result)) (a .size) (suc (a .len)) (a .size + around (a .l)) (λ h. omega arith) (λ h. omega arith)
 
 pub is-short-spec : {M : Type 1} → statement M
-is-short-spec = tie.close (tie.spec returns returns-2)
+is-short-spec = tie.close (tie.spec (λ c κs. tt) returns returns-2)
