@@ -7,4 +7,5 @@ pub mod Rows
 pub mod Settled
 pub mod Theorems
 pub mod Wheel
+pub mod Worth
 pub mod Passes

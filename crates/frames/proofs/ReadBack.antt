@@ -7,9 +7,9 @@ use Prim.Native.Nat.{ℕ, _+_, _-_, _%_, _^_, _≤_, _<_}
 use native.Mathlib.Nat.{mod-eq-of-lt, mod-one}
 use native.Mathlib.Omega.{arith}
 use lib.Dec.{lit<}
-use lib.ListN.{length, take, drop, length-append, length-drop, take-append-drop}
+use lib.ListN.{length, take, drop, length-append, take-append-drop}
 use borrow.Author.Tests.{eq-eqb}
-use lib.Seq.{take-at, drop-at, take-add, take-all}
+use lib.Seq.{take-at, drop-at, take-add}
 use Rattle.octets.specs.Basics.{AllOctets, number, octets, first}
 use Rattle.words.specs.Fields.{field, placed, read, write}
 use Rattle.words.specs.declared.Place.{Place}

@@ -3,4 +3,5 @@ pub mod Shape
 pub mod Frame
 pub mod BitFrame
 pub mod Statements
+pub mod Worth
 pub mod Passes

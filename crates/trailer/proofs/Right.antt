@@ -18,7 +18,7 @@ use Rattle.octets.proofs.Numbers.{number-within, number-past, number-octets, ru
 use Rattle.octets.proofs.Written.{length-octets, length-run, laid-within, laid-past, over-take}
 use Rattle.octets.proofs.Fronts.{all-take, all-drop}
 use Rattle.octets.proofs.Sums.{xor-apart}
-use Rattle.trailer.specs.Division.{preset, moved, divided, bits, all-bits, remainder}
+use Rattle.trailer.specs.Division.{preset, divided, bits, all-bits, remainder}
 use Rattle.trailer.specs.Trailer.{trailer, right, trailed}
 use Rattle.trailer.proofs.Moves.{moves, moves-none, moves-nothing, value, value-bits, length-bits, taken, taken-bits}
 use Rattle.trailer.proofs.Remainders.{all-bits-bits, remainder-append, remainder-lt, remainder-none, remainder-one}

@@ -1,12 +1,11 @@
 -- `frames::shape::read_head` meets its contract: a refusal by its row, and both headers lie within a frame of the right length.
 -- Assumes nothing.
 use mathlib.Core.Path.{_≡_, refl, sym, _∙_}
-use mathlib.Core.Bool.{true, false}
+use mathlib.Core.Bool.{true}
 use borrow.Author.Tests.{not-false}
 use lib.Dec.{eqb}
 use lib.ListN.{length}
 use Rattle.octets.specs.Basics.{first}
-use Rattle.trailer.specs.Trailer.{wrong}
 use Rattle.frames.specs.Shape.{shape-length, heading-of}
 use Rattle.frames.proofs.Headings.{heading-reads}
 use Rattle.frames.proofs.shape.read_head.Statement.{statement}
