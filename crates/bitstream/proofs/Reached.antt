@@ -1,6 +1,6 @@
 -- The records that pass the checks of refusal 10 are exactly those that calls reach.
 -- Assumes nothing.
-use mathlib.Core.Path.{_≡_, refl, sym, ap, subst}
+use mathlib.Core.Path.{_≡_, refl, sym, ap, _∙_, subst}
 use mathlib.Core.List.{List, [], _++_}
 use mathlib.Core.Bool.{Bool, true, false}
 use Prim.Native.Nat.{ℕ, zero, suc, _+_, _^_, _<_}
@@ -13,6 +13,8 @@ use lib.Pow.{pow-pos}
 use borrow.Author.Tests.{le-leb, lt-ltb, le-ltb, ltb-true}
 use Rattle.octets.specs.Basics.{AllOctets, octets, first}
 use Rattle.octets.proofs.Fronts.{all-append, all-zeros, all-octets}
+use Rattle.trailer.specs.Trailer.{sent}
+use Rattle.trailer.proofs.Setting.{length-sent, sent-octets, sent-front, sent-right}
 use Rattle.frames.specs.Link.{count-width, next-count, primary, head-word, headers}
 use Rattle.frames.specs.BitFrame.{bits-in-range, bit-frame-length, bit-count, most-bits, fill-only, bit-head, bit-pointer-word}
 use Rattle.frames.specs.declared.bits.BitSettings.{BitSettings}
@@ -91,22 +93,28 @@ module _ (s : BitSettings) (range : bits-in-range s ≡ true) where
   abbrev blank : List ℕ
   blank = replicate (s .width) 0
 
+  abbrev unsent : ℕ → List ℕ
+  unsent c = bit-head s c fill-only ++ blank
+
   abbrev idle : ℕ → List ℕ
-  idle c = bit-head s c fill-only ++ blank
+  idle c = sent (s .link .trailed) (unsent c)
 
   all-idle : (c : ℕ) → AllOctets (idle c)
   unfolding bit-head headers
   all-idle c =
-      all-append (bit-head s c fill-only) blank
-      (all-append (octets 6 (head-word (s .link) c 0)) (octets 2 (bit-pointer-word fill-only)) (all-octets 6 _) (all-octets 2 _)) (all-zeros (s .width))
+      sent-octets (s .link .trailed) (unsent c)
+      (all-append (bit-head s c fill-only) blank
+      (all-append (octets 6 (head-word (s .link) c 0)) (octets 2 (bit-pointer-word fill-only)) (all-octets 6 _) (all-octets 2 _)) (all-zeros (s .width)))
 
   reads : (c : ℕ) → c < 2 ^ count-width (s .link) → reading s Fresh (idle c) .reader ≡ Last c
   unfolding reading reader-reachable read-rows first bit-frame-length pointer-for
   reads c h =
       let eight : length (bit-head s c fill-only) ≡ 8 = length-bit-head s c fill-only in
-      let long : length (idle c) ≡ bit-frame-length s = rw (length-append, length-replicate) (omega arith) in
-      let back = bit-head-back s c fill-only (idle c) range h (omega arith) (take-at (bit-head s c fill-only) blank 8 eight) in
-      let taken = bit-frame-taken s back long (pointer-used s (bits-settled s range) 0 (omega arith)) in
+      let before : length (unsent c) ≡ 8 + s .width = rw (length-append, length-replicate) (omega arith) in
+      let long : length (idle c) ≡ bit-frame-length s = omega (arith, length-sent (s .link .trailed) (unsent c)) in
+      let headed = sent-front (s .link .trailed) (unsent c) 8 (omega arith) ∙ take-at (bit-head s c fill-only) blank 8 eight in
+      let back = bit-head-back s c fill-only (idle c) range h (omega arith) headed in
+      let taken = bit-frame-taken s back long (sent-right (s .link .trailed) (unsent c)) (pointer-used s (bits-settled s range) 0 (omega arith)) in
       rw (range, taken, back .count-back) refl
 
   pub reader-reached : (x : Reader) → reader-reachable s x ≡ true → ReaderReached s x

@@ -1,8 +1,8 @@
 -- What is written is read back, and what is read has its bits where they are said to be.
 -- Assumes nothing.
 use mathlib.Core.Path.{_≡_, refl, sym, ap, _∙_}
-use mathlib.Core.List.{List}
-use mathlib.Core.Bool.{Bool, true}
+use mathlib.Core.List.{List, _++_}
+use mathlib.Core.Bool.{Bool, true, false}
 use Prim.Native.Nat.{ℕ, _+_, _/_, _%_, _^_, _≤_, _<_}
 use native.Mathlib.Omega.{arith}
 use lib.ListN.{length, take, drop, length-append, length-drop}
@@ -13,6 +13,8 @@ use Rattle.words.specs.Fields.{read}
 use Rattle.words.proofs.Fields.{field-lt}
 use Rattle.octets.proofs.Fronts.{all-take, all-drop}
 use Rattle.octets.proofs.Written.{over-take}
+use Rattle.trailer.specs.Trailer.{wrong}
+use Rattle.trailer.proofs.Setting.{length-sent, sent-front, sent-part, sent-right}
 use Rattle.frames.specs.Link.{headers, zone-head, count-width}
 use Rattle.frames.specs.BitFrame.{bits-in-range, bit-frame-length, bit-frame-rows, bit-head, bit-zone-of, bit-count, bit-replay, bit-spare-place, bit-pointer-place, bit-pointer, bit-pointer-word, most-bits}
 use Rattle.frames.specs.Statements.{HeadersBack}
@@ -45,20 +47,33 @@ module _ (s : BitSettings) (range : bits-in-range s ≡ true) (c n : ℕ) (bits 
   abbrev f : List ℕ
   f = frame-with s c n bits
 
+  -- what stands before the trailer
+  abbrev octets-before : List ℕ
+  octets-before = bit-head s c (pointer-for s n) ++ zone-with s n bits
+
   octets-inside : octets-for n ≤ s .width
   octets-inside = octets-fit n (s .width) inside
 
   pub length-frame : length f ≡ bit-frame-length s
   unfolding frame-with bit-frame-length
-  length-frame = omega (arith, length-append (bit-head s c (pointer-for s n)) (zone-with s n bits), length-bit-head s c (pointer-for s n), length-zone s n bits octets-inside lent)
+  length-frame = omega (arith, length-sent (s .link .trailed) octets-before, length-append (bit-head s c (pointer-for s n)) (zone-with s n bits), length-bit-head s c (pointer-for s n), length-zone s n bits octets-inside lent)
 
   headed : take 8 f ≡ bit-head s c (pointer-for s n)
   unfolding frame-with
-  headed = take-at (bit-head s c (pointer-for s n)) (zone-with s n bits) 8 (length-bit-head s c (pointer-for s n))
+  headed =
+      sent-front (s .link .trailed) octets-before 8 (omega (arith, length-append (bit-head s c (pointer-for s n)) (zone-with s n bits), length-bit-head s c (pointer-for s n)))
+      ∙ take-at (bit-head s c (pointer-for s n)) (zone-with s n bits) 8 (length-bit-head s c (pointer-for s n))
 
-  zoned : drop 8 f ≡ zone-with s n bits
+  zoned : take (octets-for n) (drop 8 f) ≡ take (octets-for n) (zone-with s n bits)
   unfolding frame-with
-  zoned = drop-at (bit-head s c (pointer-for s n)) (zone-with s n bits) 8 (length-bit-head s c (pointer-for s n))
+  zoned =
+      sent-part (s .link .trailed) octets-before 8 (octets-for n)
+      (omega (arith, octets-inside, length-append (bit-head s c (pointer-for s n)) (zone-with s n bits), length-bit-head s c (pointer-for s n), length-zone s n bits octets-inside lent))
+      ∙ ap (take (octets-for n)) (drop-at (bit-head s c (pointer-for s n)) (zone-with s n bits) 8 (length-bit-head s c (pointer-for s n)))
+
+  right : wrong (s .link .trailed) f ≡ false
+  unfolding frame-with
+  right = sent-right (s .link .trailed) octets-before
 
   short : pointer-for s n < 2 ^ 14
   short = pointer-lt s n inside (settled .width-most)
@@ -67,7 +82,7 @@ module _ (s : BitSettings) (range : bits-in-range s ≡ true) (c n : ℕ) (bits 
   back = bit-head-back s c (pointer-for s n) f range wheel short headed
 
   taken : first (bit-frame-rows s f) ≡ 0
-  taken = bit-frame-taken s back length-frame (pointer-used s settled n inside)
+  taken = bit-frame-taken s back length-frame right (pointer-used s settled n inside)
 
   said : (x : Reader) → reader-reachable s x ≡ true
       → reading s x f ≡ record { refusal = 0; count = c; replay = 0; bits = n; lost = loss-flag s x c; reader = Last c }
@@ -78,7 +93,7 @@ module _ (s : BitSettings) (range : bits-in-range s ≡ true) (c n : ℕ) (bits 
   leading : leading-octets s n f ≡ take (octets-for n) (zone-with s n bits)
   leading =
       leading-some s n f (rw (eq-eqb (length f) (bit-frame-length s) length-frame, le-leb n (most-bits s) inside) refl)
-      ∙ ap (take (octets-for n)) zoned
+      ∙ zoned
 
   pub frame-read-back : AllOctets bits → (x : Reader) → reader-reachable s x ≡ true → ReadBack s x c n bits f
   unfolding octets-for
@@ -165,6 +180,8 @@ module _ (s : BitSettings) (x : Reader) (f : List ℕ) (octets : AllOctets f) (d
   head-of : take 8 f ≡ headers (s .link) (bit-count s f) (bit-replay s f) (bit-pointer-word (pointer-for s n))
   head-of =
       ap (take 8) (bit-frame-again s f bounds octets (clear .sound))
+      ∙ sent-front (s .link .trailed) (headers (s .link) (bit-count s f) (bit-replay s f) (bit-pointer-word pointer) ++ bit-zone-of s f) 8
+      (omega (arith, length-append (headers (s .link) (bit-count s f) (bit-replay s f) (bit-pointer-word pointer)) (bit-zone-of s f), length-headers (s .link) (bit-count s f) (bit-replay s f) (bit-pointer-word pointer)))
       ∙ take-at (headers (s .link) (bit-count s f) (bit-replay s f) (bit-pointer-word pointer)) (bit-zone-of s f) 8 (length-headers (s .link) _ _ _)
       ∙ ap (λ (p : ℕ). headers (s .link) (bit-count s f) (bit-replay s f) (bit-pointer-word p)) (sym (pointer-again s bounds pointer pointer-short (sound .pointer-used)))
 

@@ -7,6 +7,7 @@ use lib.Dec.{leb, ltb, eqb}
 use Rattle.octets.specs.Basics.{pick, and, or, over, Row, row, first}
 use Rattle.words.specs.Fields.{read, write}
 use Rattle.words.specs.declared.Place.{Place}
+use Rattle.trailer.specs.Trailer.{sent}
 use Rattle.frames.specs.Link.{count-width, next-count}
 use Rattle.frames.specs.BitFrame.{bits-in-range, bit-frame-length, bit-frame-rows, bit-zone-of, bit-count, bit-replay, bit-pointer, bit-head, most-bits, fill-only, all-valid}
 use Rattle.frames.specs.declared.bits.BitSettings.{BitSettings}
@@ -72,7 +73,7 @@ write-rows s w n lent room =
 
 -- the frame with this count and n bits
 unfoldable pub frame-with : BitSettings → ℕ → ℕ → List ℕ → List ℕ
-frame-with s c n bits = bit-head s c (pointer-for s n) ++ zone-with s n bits
+frame-with s c n bits = sent (s .link .trailed) (bit-head s c (pointer-for s n) ++ zone-with s n bits)
 
 -- an answer, with the octets of the frame's buffer after the call
 pub record Wrote : Type 0 where

@@ -1,5 +1,6 @@
 -- Sample pass 13: zones of one octet with 7 and with 8 bits, and what their pointers say.
 -- Assumes nothing.
+use mathlib.Core.Bool.{false}
 use mathlib.Core.Path.{_≡_}
 use mathlib.Core.List.{[], _∷_}
 use Rattle.frames.specs.declared.bits.BitSettings.{BitSettings}
@@ -7,7 +8,7 @@ use Rattle.bitstream.specs.Bitstream.{pointer-for, valid-bits, frame-wit
 
 -- W = 1, filled with 55
 abbrev one-octet : BitSettings
-one-octet = record { link = record { spacecraft = 66; channel = 3 }; width = 1; fill = 85 }
+one-octet = record { link = record { spacecraft = 66; channel = 3; trailed = false }; width = 1; fill = 85 }
 
 pub record Pass13 : Type 0 where
   pub seven : pointer-for one-octet 7 ≡ 6

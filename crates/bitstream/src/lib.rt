@@ -136,6 +136,7 @@ pub fn write(s: BitSettings, w: Writer, bits: &[u8], n: usize, frame: &mut [u8])
     }
     frames::bits::write_head(s, w.count, pointer_for(s, n), frame);
     lay_bits(s, bits, n, frame);
+    trailer::end_frame(s.link.trailed, frame, ZONE_AT + s.width);
     Written {
         refusal: 0,
         writer: Writer {

@@ -18,6 +18,7 @@ use Rattle.octets.proofs.Tests.{test, and-both}
 use Rattle.packets.specs.Packet.{Look, more, damaged, whole, look}
 use Rattle.packets.proofs.Begun.{damaged-append}
 use Rattle.packets.proofs.Grown.{look-append}
+use Rattle.trailer.proofs.Setting.{sent-octets}
 use Rattle.frames.specs.Link.{head-word, headers, count-width}
 use Rattle.frames.specs.Frame.{idle-zone, no-start, in-range, frame-length, zone-of, pointer-word, head}
 use Rattle.frames.specs.declared.Settings.{Settings}
@@ -161,9 +162,10 @@ keeps-on s f store {h = h} {at = at} (give {l = l} packed w fits seen rest low h
 pub all-framed : (s : Settings) (c p : ℕ) (z : List ℕ) → AllOctets z → AllOctets (framed s c p z)
 unfolding framed head headers
 all-framed s c p z small =
-    let front : List ℕ = octets 6 (head-word (s .link) c 0) in
+    sent-octets (s .link .trailed) (head s c p ++ z)
+    (let front : List ℕ = octets 6 (head-word (s .link) c 0) in
     let back : List ℕ = octets 2 (pointer-word p) in
-    all-append (front ++ back) z (all-append front back (all-octets 6 (head-word (s .link) c 0)) (all-octets 2 (pointer-word p))) small
+    all-append (front ++ back) z (all-append front back (all-octets 6 (head-word (s .link) c 0)) (all-octets 2 (pointer-word p))) small)
 
 -- a frame that follows the last one, with the pointer that agrees with what is held
 step-held : (s : Settings) (held f z : List ℕ) (c p : ℕ) → c < 2 ^ count-width (s .link) → Framed s c p z f → agreed s held z ≡ some (p ∷ [])

@@ -85,7 +85,7 @@ pub record Plain (s : Settings) (h at : ℕ) (store f : List ℕ) : Type 0 where
   pub small : s .zone ≤ 2046
   pub inside : at ≤ s .zone
   pub holds : h ≤ length store
-  pub long : length f ≡ 8 + s .zone
+  pub long : 8 + s .zone ≤ length f
 
 pub plain : {s : Settings} {h at : ℕ} {store f : List ℕ} → Walks s h at store f → Plain s h at store f
 unfolding frame-length

@@ -20,7 +20,7 @@ use Rattle.packets.proofs.Grown.{look-append, look-bounds}
 use Rattle.frames.specs.Frame.{in-range, frame-length, zone-of}
 use Rattle.frames.specs.Link.{zone-at}
 use Rattle.frames.specs.declared.Settings.{Settings}
-use Rattle.frames.proofs.Accepted.{zone-is, length-zone}
+use Rattle.frames.proofs.Accepted.{zone-part, length-zone}
 use Rattle.frames.proofs.Settled.{settled}
 use Rattle.extractor.specs.Records.{unfinished, reachable, is-entered, Stepped, steps-to, kept-for-later, handed-over, step-look, step, shown}
 use Rattle.extractor.specs.declared.Extractor.{Extractor}
@@ -85,7 +85,7 @@ module _ (s : Settings) (f store : List ℕ) (ok : in-range s ≡ true) (right :
   in-frame : (at l : ℕ) → at + l ≤ s .zone → part-of f (zone-at (s .link) + at) l ≡ take l (drop at (zone-of s f))
   unfolding part-of frame-length
   in-frame at l h =
-      rw (le-leb (zone-at (s .link) + at + l) (length f) (omega arith), zone-is s f right, drop-drop at (zone-at (s .link)) f) refl
+      rw (le-leb (zone-at (s .link) + at + l) (length f) (omega arith)) (sym (zone-part s f right at l h))
 
   given-turn : (last : ℕ) {h at : ℕ} (l : ℕ) → Place s store h at
       → look (s .limit) (ahead s f store h at) ≡ whole l → l ≤ length (ahead s f store h at)

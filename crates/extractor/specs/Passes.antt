@@ -1,5 +1,6 @@
 -- Sample passes 2 to 7: what is said of each frame of a run, from a fresh extractor on.
 use Prim.Native.Nat.{ℕ}
+use mathlib.Core.Bool.{false}
 use mathlib.Core.Path.{_≡_}
 use mathlib.Core.List.{List, [], _∷_, _++_}
 use lib.ListN.{replicate}
@@ -9,7 +10,7 @@ use Rattle.extractor.specs.Extract.{fresh, Event, packet, idle, torn, To
 
 -- Z = 10, M = 1,024
 abbrev pub sample : Settings
-sample = record { link = record { spacecraft = 66; channel = 3 }; zone = 10; limit = 1024; fill = 0x55 }
+sample = record { link = record { spacecraft = 66; channel = 3; trailed = false }; zone = 10; limit = 1024; fill = 0x55 }
 
 -- a frame of the channel with this count, pointer and zone, octet by octet
 abbrev pub sample-frame : ℕ → ℕ → List ℕ → List ℕ

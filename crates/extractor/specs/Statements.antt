@@ -21,7 +21,7 @@ use Rattle.extractor.specs.declared.Spending.{Spending}
 
 -- the least zone and the least limit
 abbrev pub tight : Settings
-tight = record { link = record { spacecraft = 0; channel = 0 }; zone = 1; limit = 7; fill = 0 }
+tight = record { link = record { spacecraft = 0; channel = 0; trailed = false }; zone = 1; limit = 7; fill = 0 }
 
 -- seven octets of a header of eight
 abbrev pub seven-held : List ℕ

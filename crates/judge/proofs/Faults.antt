@@ -36,7 +36,7 @@ faults-only (r ∷ rs) k =
 -- every refusal of a frame is a fault
 pub frame-refusal-faults : (s : Settings) (f : List ℕ) → is-fault (first (frame-rows s f)) ≡ not (eqb (first (frame-rows s f)) 0)
 unfolding is-fault frame-rows header-rows
-frame-refusal-faults s f = faults-only (frame-rows s f) (refl, (refl, (refl, (refl, (refl, tt)))))
+frame-refusal-faults s f = faults-only (frame-rows s f) (refl, (refl, (refl, (refl, (refl, (refl, tt))))))
 
 pub refused-faulty : (s : Settings) (x : State) (f : List ℕ) → eqb (first (frame-rows s f)) 0 ≡ false → faulty-entry s x f ≡ true
 unfolding faulty-entry

@@ -18,7 +18,7 @@ use Rattle.octets.proofs.Choices.{and-true}
 use Rattle.octets.proofs.Fronts.{all-take, all-drop, all-append}
 use Rattle.octets.proofs.Tests.{test}
 use Rattle.packets.specs.Packet.{whole, look, encapsulation, is-idle}
-use Rattle.frames.specs.Link.{zone-at, count-width}
+use Rattle.frames.specs.Link.{around, zone-at, count-width}
 use Rattle.frames.specs.Frame.{no-start, in-range, frame-length, frame-rows, zone-of, pointer, count, most-frames}
 use Rattle.frames.specs.declared.Settings.{Settings}
 use Rattle.frames.proofs.Accepted.{length-zone}
@@ -231,7 +231,7 @@ module _ (s : Settings) (store : List ℕ) (ok : in-range s ≡ true) (room : s 
   -- a frame of no octets is a fault
   tried-empty : (n : ℕ) (st : State) → try-frame s n st store [] ≡ judging (faults-at n) store
   unfolding try-frame faulty-entry is-fault first frame-rows frame-length
-  tried-empty n st = rw (ne-eqb 0 (s .zone + zone-at (s .link)) (omega arith))
+  tried-empty n st = rw (ne-eqb 0 (s .zone + around (s .link)) (omega arith))
 
   led-fault : (n : ℕ) → n < most-frames → Led (faults-at n)
   unfolding judge-frame count-width unfinished look

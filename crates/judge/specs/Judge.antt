@@ -15,7 +15,7 @@ opened = record { last = none; step = in-step [] }
 
 -- the refusals of a frame that the judge treats as faults
 unfoldable pub is-fault : ℕ → Bool
-is-fault n = member n (3 ∷ 4 ∷ 5 ∷ 6 ∷ 7 ∷ [])
+is-fault n = member n (3 ∷ 13 ∷ 4 ∷ 5 ∷ 6 ∷ 7 ∷ [])
 
 -- a fault that is seen before the first step: a refusal, frames missing, or a reason to drop what is held
 unfoldable pub faulty-entry : Settings → State → List ℕ → Bool

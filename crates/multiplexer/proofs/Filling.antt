@@ -4,11 +4,15 @@ use mathlib.Core.Path.{_≡_, sym, ap, ap₂, _∙_}
 use mathlib.Core.List.{List, _++_, append-assoc}
 use mathlib.Core.Bool.{Bool}
 use Prim.Native.Nat.{ℕ, _+_, _≤_, _<_}
+use native.Mathlib.Nat.{add-comm}
 use native.Mathlib.Omega.{arith}
 use lib.ListN.{length, take, drop, length-append, length-drop}
 use lib.Seq.{length-take-le, take-at, drop-at, take-add, take-append-add}
 use borrow.Author.Tests.{eq-eqb, ne-eqb}
 use Rattle.octets.specs.Basics.{pick, over}
+use Rattle.octets.proofs.Written.{length-over}
+use Rattle.trailer.specs.Trailer.{extra, sent, ended}
+use Rattle.trailer.proofs.Setting.{ended-frame}
 use Rattle.frames.specs.Link.{zone-at}
 use Rattle.frames.specs.Frame.{frame-length, head}
 use Rattle.frames.specs.declared.Settings.{Settings}
@@ -55,18 +59,26 @@ module _ (s : Settings) (m : Mux) (start : ℕ) (os frame : List ℕ) where
   -- the frame that a full zone makes
   pub frame-written : m .filled + length os ≡ s .zone → frame-length s ≤ length frame
       → take (frame-length s) (filled-frame s m start os frame)
-      ≡ head s (m .count) start ++ (take (m .filled) (drop (zone-at (s .link)) frame) ++ os)
+      ≡ sent (s .link .trailed) (head s (m .count) start ++ (take (m .filled) (drop (zone-at (s .link)) frame) ++ os))
   unfolding filled-frame frame-length
   frame-written full long =
       let hd : List ℕ = head s (m .count) start in
       let z : ℕ = zone-at (s .link) in
-      ap (λ (b : Bool). take (s .zone + z) (pick b (over put-in 0 hd) put-in)) (eq-eqb (m .filled + length os) (s .zone) full)
-      ∙ head-over put-in hd z (s .zone) (length-head s (m .count) start)
+      let on : Bool = s .link .trailed in
+      let whole : s .zone + (z + extra on) ≡ z + s .zone + extra on = omega arith in
+      let in-place : length put-in ≡ length frame = length-over frame (z + m .filled) os (omega arith) in
+      let eight : length hd ≡ z = length-head s (m .count) start in
+      let headed : length (over put-in 0 hd) ≡ length frame = length-over put-in 0 hd (omega arith) ∙ in-place in
+      ap (λ (b : Bool). take (s .zone + (z + extra on)) (pick b (ended on (over put-in 0 hd) (z + s .zone)) put-in)) (eq-eqb (m .filled + length os) (s .zone) full)
+      ∙ ap (λ (k : ℕ). take k (ended on (over put-in 0 hd) (z + s .zone))) whole
+      ∙ ended-frame on (over put-in 0 hd) (z + s .zone) (omega arith)
+      ∙ ap (sent on) (ap (λ (k : ℕ). take k (over put-in 0 hd)) (add-comm z (s .zone))
+      ∙ head-over put-in hd z (s .zone) eight
       ∙ ap (λ (k : ℕ). hd ++ take k (drop z put-in)) (sym full)
-      ∙ ap (λ (l : List ℕ). hd ++ l) (zone-grown frame z (m .filled) os (omega arith))
+      ∙ ap (λ (l : List ℕ). hd ++ l) (zone-grown frame z (m .filled) os (omega arith)))
 
   -- the frame while the zone is not full
   pub frame-kept : m .filled + length os < s .zone → filled-frame s m start os frame ≡ put-in
   unfolding filled-frame
   frame-kept part-full =
-      ap (λ (b : Bool). pick b (over put-in 0 (head s (m .count) start)) put-in) (ne-eqb (m .filled + length os) (s .zone) (omega arith))
+      ap (λ (b : Bool). pick b (ended (s .link .trailed) (over put-in 0 (head s (m .count) start)) (zone-at (s .link) + s .zone)) put-in) (ne-eqb (m .filled + length os) (s .zone) (omega arith))

@@ -12,6 +12,7 @@ use lib.Seq.{take-length}
 use borrow.Author.Tests.{eq-eqb, ne-eqb}
 use Rattle.octets.specs.Basics.{pick, part, over, laid, laid-part, first}
 use Rattle.octets.proofs.Written.{length-run, laid-within, part-within}
+use Rattle.trailer.specs.Trailer.{ended}
 use Rattle.frames.specs.Link.{zone-at, count-width, next-count}
 use Rattle.frames.specs.Frame.{frame-length, head, head-rows, no-start, idle-zone}
 use Rattle.frames.specs.declared.Settings.{Settings}
@@ -47,15 +48,15 @@ module _ {s : Settings} {m : Mux} {start n : ℕ} {d : List ℕ} (taken : ℕ) w
   }
 
   -- octets that fill it
-  pub counted-full : {r : ℕ} {f : List ℕ} → Fills s m start n d → m .filled + n ≡ s .zone → r ≡ first (head-rows s (m .count) start d)
-      → f ≡ pick (eqb r 0) (over d 0 (head s (m .count) start)) d
-      → Counted s m start n taken (record { count = next-count (count-width (s .link)) (m .count); filled = 0; first = no-start; taken = taken }) d f
+  pub counted-full : {r : ℕ} {f g : List ℕ} → Fills s m start n d → m .filled + n ≡ s .zone → r ≡ first (head-rows s (m .count) start d)
+      → f ≡ pick (eqb r 0) (over d 0 (head s (m .count) start)) d → g ≡ ended (s .link .trailed) f (zone-at (s .link) + s .zone)
+      → Counted s m start n taken (record { count = next-count (count-width (s .link)) (m .count); filled = 0; first = no-start; taken = taken }) d g
   unfolding filled-mux filled-frame count-width frame-length
-  counted-full {r} {f} w q t v =
+  counted-full {r} {f} {g} w q t v u =
       let z : r ≡ 0 = t ∙ none-refused s (m .count) start d (w .settled) (w .counted) (w .pointed) (w .used) (omega (arith, w .room)) in
       record {
         mux = rw (eq-eqb _ _ q) refl;
-        frame = λ os frame l e. rw (l, eq-eqb (m .filled + n) (s .zone) q, ← e, v, eq-eqb r 0 z) refl;
+        frame = λ os frame l e. rw (l, eq-eqb (m .filled + n) (s .zone) q, ← e, u, v, eq-eqb r 0 z) refl;
       }
 
 -- ---- what each call lays

@@ -3,11 +3,12 @@
 use mathlib.Core.Path.{refl}
 use Rattle.octets.specs.Basics.{octets, part, over}
 use Rattle.wrapping.specs.Idle.{idle-header, idle-packet}
+use Rattle.trailer.specs.Trailer.{extra, ended}
 use Rattle.frames.specs.Link.{headers, head-word}
 use Rattle.frames.specs.Frame.{frame-length, head, zone-of}
 use Rattle.multiplexer.specs.Multiplex.{filled-frame, start-now, fits-now, put, flush}
 use Rattle.multiplexer.specs.Passes.{sample, flushed, Pass9}
 
 pub pass-9 : Pass9
-unfolding sample flushed flush put fits-now start-now filled-frame idle-packet idle-header frame-length zone-of part over head headers head-word octets
+unfolding sample flushed flush put extra ended fits-now start-now filled-frame idle-packet idle-header frame-length zone-of part over head headers head-word octets
 pass-9 = record { one = refl; two = refl; octet = refl; more = refl }

@@ -7,6 +7,7 @@ use lib.Dec.{leb, ltb, eqb}
 use Rattle.octets.specs.Basics.{pick, and, or, part, over, Row, row}
 use Rattle.packets.specs.Packet.{well-formed}
 use Rattle.wrapping.specs.Idle.{idle-packet}
+use Rattle.trailer.specs.Trailer.{ended}
 use Rattle.frames.specs.Link.{zone-at, count-width, next-count}
 use Rattle.frames.specs.Frame.{in-range, frame-length, head, no-start, idle-zone}
 use Rattle.frames.specs.declared.Settings.{Settings}
@@ -37,11 +38,13 @@ put-rows s m p room =
     ∷ row 8 (not (well-formed (s .limit) p))
     ∷ [])
 
--- the frame with `os` put into the zone; and the header too where the zone is now full
+-- the frame with `os` put into the zone; and the header, and what follows the zone, too where it is now full
 unfoldable pub filled-frame : Settings → Mux → ℕ → List ℕ → List ℕ → List ℕ
 filled-frame s m start os frame =
     let frame₁ : List ℕ = over frame (zone-at (s .link) + m .filled) os in
-    pick (eqb (m .filled + length os) (s .zone)) (over frame₁ 0 (head s (m .count) start)) frame₁
+    pick (eqb (m .filled + length os) (s .zone))
+    (ended (s .link .trailed) (over frame₁ 0 (head s (m .count) start)) (zone-at (s .link) + s .zone))
+    frame₁
 
 -- the record with n octets more in the zone; a full zone is the next frame's, empty
 unfoldable pub filled-mux : Settings → Mux → ℕ → ℕ → ℕ → Mux

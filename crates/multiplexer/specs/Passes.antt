@@ -1,5 +1,6 @@
 -- Sample pass 9: what a flush writes with r octets left in a zone.
 use Prim.Native.Nat.{ℕ, _-_}
+use mathlib.Core.Bool.{false}
 use mathlib.Core.Path.{_≡_}
 use mathlib.Core.List.{List, [], _∷_}
 use lib.ListN.{drop, replicate}
@@ -10,7 +11,7 @@ use Rattle.multiplexer.specs.declared.Mux.{Mux}
 
 -- a channel with zones of 300 octets and the fill octet 55
 unfoldable pub sample : Settings
-sample = record { link = record { spacecraft = 66; channel = 3 }; zone = 300; limit = 1024; fill = 0x55 }
+sample = record { link = record { spacecraft = 66; channel = 3; trailed = false }; zone = 300; limit = 1024; fill = 0x55 }
 
 -- the end of the zone that a flush leaves, from the r octets that were left
 unfoldable pub flushed : ℕ → List ℕ

@@ -135,13 +135,14 @@ fn taken_now(taken: usize, len: usize) -> usize
     if taken == len { 0 } else { taken }
 }
 
-// Counts n octets that were laid into the zone. A zone that is now full gets its header.
+// Counts n octets that were laid into the zone. A zone that is now full gets its header, and its trailer where the channel has one.
 fn count_in(s: Settings, m: Mux, start: usize, n: usize, taken: usize, frame: &mut [u8]) -> Mux
     requires { ⌜ Fills s m start n (now frame) ⌝ }
     ensures { λ r. ⌜ Counted s m start n taken r (now (frame .entry)) (now (frame .exit)) ⌝ }
 {
     if m.filled + n == s.zone {
         frames::write_head(s, m.count, start as u16, frame);
+        trailer::end_frame(s.link.trailed, frame, ZONE_AT + s.zone);
         return Mux {
             count: (m.count + 1) % WHEEL,
             filled: 0,

@@ -46,19 +46,28 @@ lay-bits-requires c κs =
       room = omega (arith, at-head .write-head .kept .1 .1 .1 .0, given at .room-enough);
     }
 
+add-end-frame : tie.Need-add-end-frame
+add-end-frame c =
+    let at-lay = c .before .before .before .before in
+    let at-head = at-lay .before .before .before .before in
+    let at = at-head .before .before .before in
+    record { fits = omega (arith, bits-settled (start at .args .s) (given at .in-range) .width-most) }
+
 returns-2 : tie.Need-returns-2
 unfolding count-width
 returns-2 c =
-    let at-lay = c .before .before .before in
+    let at-end = c .before .before .before in
+    let at-lay = at-end .before .before .before .before .before in
     let at-head = at-lay .before .before .before .before in
     let at = at-head .before .before .before in
     let a = start at .args in
     write-done (a .s) (a .w) (a .n) (a .bits .now) (a .frame .now) _ _ (none at) (c .next-count .ensures)
-    (framed (a .s) (a .w) (a .n) (a .bits .now) (a .frame .now) (given at) _ _
+    (framed (a .s) (a .w) (a .n) (a .bits .now) (a .frame .now) (given at) _ _ _
     (headed (a .s) (a .w) (a .n) (a .bits .now) (a .frame .now) (given at) _ _
     (rw (at-head .before .before .pointer-for .ensures) at (at-head .write-head .ensures .0))
     (rw (at-head .before .before .pointer-for .ensures) at (at-head .write-head .ensures .1)))
-    (at-lay .lay-bits .ensures))
+    (at-lay .lay-bits .ensures)
+    (at-end .end-frame .ensures))
 
 pub write-spec : {M : Type 1} → statement M
 write-spec =
@@ -69,6 +78,8 @@ write-spec =
     pointer-for-requires
     (λ c κs. search needs)
     lay-bits-requires
+    add-end-frame
+    (λ c κs. search needs)
     (λ c κs. search needs)
     (λ c. search needs)
     returns-2)

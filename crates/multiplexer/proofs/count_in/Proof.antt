@@ -2,24 +2,32 @@
 -- Assumes nothing.
 use native.Mathlib.Omega.{arith}
 use Rattle.frames.specs.Link.{count-width, next-count}
+use Rattle.frames.proofs.Settled.{settled}
 use Rattle.multiplexer.proofs.Laying.{counted-more, counted-full}
 use borrow.Author.Needs.{needs}
 use Rattle.multiplexer.proofs.count_in.Statement.{statement}
 use Rattle.multiplexer.proofs.count_in.Tie as tie
 
-add-count : tie.Need-add-t13
+add-end : tie.Need-add-end-frame
+add-end c =
+    let at-start = c .before .before .before .before .before .before .before .before .before .before in
+    record { fits = omega (arith, settled (at-start .args .s) (at-start .pre .settled) .zone-most) }
+
+add-count : tie.Need-add-t17
 unfolding count-width
 add-count c =
-    let at-start = c .before .before .before .before .before .before .before .before .before in
+    let at-start = c .before .before .before .before .before .before .before .before .before .before .before .before .before .before in
     record { fits = omega (arith, at-start .pre .counted) }
 
 returns : tie.Need-returns
 unfolding count-width next-count
 returns c =
-    let at-head = c .before .before .before in
+    let at-end = c .before .before .before in
+    let at-head = at-end .before .before .before .before .before in
     let at-if1 = at-head .before .before in
     let at-start = at-if1 .before .before .before .before in
     counted-full (at-start .args .taken) (at-start .pre) (at-if1 .if1 .taken) (at-head .write-head .ensures .0) (at-head .write-head .ensures .1)
+    (at-end .end-frame .ensures)
 
 returns-2 : tie.Need-returns-2
 returns-2 c =
@@ -32,6 +40,8 @@ count-in-spec =
     (tie.spec
     (λ c. search needs)
     (λ c. search needs)
+    (λ c κs. search needs)
+    add-end
     (λ c κs. search needs)
     add-count
     (λ c. search needs)
