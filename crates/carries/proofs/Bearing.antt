@@ -26,14 +26,15 @@ unfolding Bears frame-rows frame-length
 rows-bear s f e =
     let r = sound-frame (packet-shape s) f e in
     let h = r .header in
-    (r .length-right, h .version-right, h .spacecraft-right, h .channel-right, h .spare-clear, h .zone-spare-clear)
+    (r .length-right, r .trailer-right, h .version-right, h .spacecraft-right, h .channel-right, h .spare-clear, h .zone-spare-clear)
 
 -- and back, where the pointer is one that is used
 pub bears-rows : (s : Settings) (f : List ℕ) → Bears s f → Used s (pointer s f) → first (frame-rows s f) ≡ 0
 unfolding frame-rows frame-length unused header-rows first Bears
-bears-rows s f (e₁, e₂, e₃, e₄, e₅, e₆) used =
+bears-rows s f (e₁, right, e₂, e₃, e₄, e₅, e₆) used =
     rw (
       eq-eqb (length f) (frame-length s) e₁,
+      right,
       eq-eqb (version s f) 1 e₂,
       eq-eqb (spacecraft s f) (s .link .spacecraft) e₃,
       eq-eqb (channel s f) (s .link .channel) e₄,

@@ -3,10 +3,12 @@
 use Prim.Native.Nat.{ℕ, _+_, _-_}
 use mathlib.Core.Path.{_≡_}
 use mathlib.Core.List.{List, [], _∷_, _++_}
+use mathlib.Core.Bool.{false}
 use lib.ListN.{length, take, drop}
 use lib.Dec.{leb, ltb, eqb}
 use Rattle.octets.specs.Basics.{pick, and, All}
 use Rattle.packets.specs.Packet.{WellFormed, end-to-end}
+use Rattle.trailer.specs.Trailer.{wrong}
 use Rattle.frames.specs.Link.{count-width, next-count}
 use Rattle.frames.specs.Frame.{idle-zone, no-start, frame-length, version, spacecraft, channel, count, spare, zone-spare, pointer, zone-of}
 use Rattle.frames.specs.declared.Settings.{Settings}
@@ -39,10 +41,11 @@ LaidFrom s ps o (f ∷ fs) =
     × (zone-of s f ≡ take (s .zone) (drop o (end-to-end ps)))
     × LaidFrom s ps (o + s .zone) fs)
 
--- a frame bears the channel's header
+-- a frame bears the channel's header and, where the channel has one, the trailer of all octets before it
 unfoldable pub Bears : Settings → List ℕ → Type 0
 Bears s f =
     (length f ≡ frame-length s)
+    × (wrong (s .link .trailed) f ≡ false)
     × (version s f ≡ 1)
     × (spacecraft s f ≡ s .link .spacecraft)
     × (channel s f ≡ s .link .channel)

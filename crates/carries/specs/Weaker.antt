@@ -2,6 +2,7 @@
 -- are all needed.
 use Prim.Native.Nat.{ℕ}
 use mathlib.Core.Path.{_≡_}
+use mathlib.Core.Bool.{false}
 use mathlib.Core.List.{List, [], _∷_}
 use lib.ListN.{take}
 use Rattle.octets.specs.Basics.{All}
@@ -13,7 +14,7 @@ use Rattle.carries.specs.Carries.{starts, first-start, Between, LaidFrom
 
 -- Z = 2, M = 7
 abbrev pub small : Settings
-small = record { link = record { spacecraft = 66; channel = 3 }; zone = 2; limit = 7; fill = 0x55 }
+small = record { link = record { spacecraft = 66; channel = 3; trailed = false }; zone = 2; limit = 7; fill = 0x55 }
 
 -- a frame of the channel: its count, the two octets of its pointer, and the two of its zone
 abbrev pub framed : ℕ → ℕ → ℕ → ℕ → ℕ → List ℕ

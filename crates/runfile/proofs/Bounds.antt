@@ -3,12 +3,14 @@
 use mathlib.Core.Path.{_≡_, refl}
 use mathlib.Core.List.{List}
 use mathlib.Core.Bool.{Bool, true, false}
-use Prim.Native.Nat.{ℕ, _≤_}
+use Prim.Native.Nat.{ℕ, _+_, _≤_}
 use native.Mathlib.Omega.{arith}
 use lib.Dec.{ltb, eqb}
-use borrow.Author.Tests.{le-leb, leb-true, eq-eqb, eqb-true}
+use borrow.Author.Tests.{le-leb, leb-true, eq-eqb, eqb-true, not-true}
 use Rattle.octets.specs.Basics.{pick, and}
 use Rattle.octets.proofs.Choices.{and-true}
+use Rattle.trailer.specs.Trailer.{extra}
+use Rattle.frames.specs.Link.{zone-at}
 use Rattle.frames.specs.Frame.{frame-length, most-frames}
 use Rattle.frames.specs.declared.Settings.{Settings}
 use Rattle.frames.proofs.Settled.{Settled, settled}
@@ -20,20 +22,26 @@ use Rattle.runfile.specs.declared.Progress.the-variants.{Start, Running,
 pub record Fitting (s : Settings) : Type 0 where
   pub in-numbers : Settled s
   pub limit-here : s .limit ≤ 4096
+  pub no-trailer : s .link .trailed ≡ false
 
 pub fitting : (s : Settings) → fits s ≡ true → Fitting s
 unfolding fits
 fitting s e =
     let a = and-true _ _ e in
-    record { in-numbers = settled s (a .0); limit-here = leb-true _ _ (a .1) }
+    let b = and-true _ _ (a .1) in
+    record { in-numbers = settled s (a .0); limit-here = leb-true _ _ (b .0); no-trailer = not-true _ (b .1) }
 
 -- no record has a longer body
 abbrev pub most-body : ℕ
 most-body = 2054
 
+-- a frame has nothing behind its zone
+pub frame-plain : (s : Settings) → fits s ≡ true → frame-length s ≡ s .zone + zone-at (s .link)
+unfolding frame-length extra
+frame-plain s e = rw (fitting s e .no-trailer) refl
+
 pub frame-most : (s : Settings) → fits s ≡ true → frame-length s ≤ most-body
-unfolding frame-length
-frame-most s e = omega (arith, fitting s e .in-numbers .zone-most)
+frame-most s e = omega (arith, frame-plain s e, fitting s e .in-numbers .zone-most)
 
 -- what the progress after n frames has where a file can lead to it
 pub record Standing (s : Settings) (n : ℕ) : Type 0 where

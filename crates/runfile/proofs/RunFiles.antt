@@ -1,6 +1,6 @@
 -- The run file of settings and frames says these and nothing else, and a file that is a run is the run file of what it says.
 -- Assumes nothing.
-use mathlib.Core.Path.{_≡_, refl, sym, ap, subst, _∙_}
+use mathlib.Core.Path.{_≡_, refl, sym, ap, ap₂, subst, _∙_}
 use mathlib.Core.List.{List, [], _∷_, _++_}
 use mathlib.Core.Bool.{Bool, true, false}
 use mathlib.Core.Option.{Option, none, some}
@@ -28,7 +28,12 @@ setup-back s fit clear =
       number-octets 2 (s .zone) (omega (arith, b .in-numbers .zone-most)),
       number-octets 3 (s .limit) (omega (arith, b .limit-here)),
     )
-    (ap (λ (octet : ℕ). record { link = s .link; zone = s .zone; limit = s .limit; fill = octet }) (sym clear))
+    (ap₂ (λ (on : Bool) (octet : ℕ). record {
+      link = record { spacecraft = s .link .spacecraft; channel = s .link .channel; trailed = on };
+      zone = s .zone;
+      limit = s .limit;
+      fill = octet;
+    }) (sym (b .no-trailer)) (sym clear))
 
 abbrev said : List (List ℕ) → Reading
 said fs = record { setup = none; frames = fs; bad = none }

@@ -3,7 +3,7 @@
 use Prim.Native.Nat.{ℕ, zero, suc, _+_, _≤_}
 use mathlib.Core.Path.{_≡_}
 use mathlib.Core.List.{List, [], _∷_, _++_}
-use mathlib.Core.Bool.{Bool, true, false}
+use mathlib.Core.Bool.{Bool, true, false, not}
 use mathlib.Core.Option.{Option, none, some}
 use lib.ListN.{length, take, drop, getD}
 use lib.Dec.{leb, eqb}
@@ -19,15 +19,15 @@ setup-length = 7
 unfoldable pub setup-of : List ℕ → Settings
 setup-of body =
     record {
-      link = record { spacecraft = getD body 0 0; channel = getD body 1 0 };
+      link = record { spacecraft = getD body 0 0; channel = getD body 1 0; trailed = false };
       zone = number-at 2 2 body;
       limit = number-at 3 4 body;
       fill = 0;
     }
 
--- within the numbers, and M here at most 4,096
+-- within the numbers, M here at most 4,096, and no trailer, of which a setup says nothing
 unfoldable pub fits : Settings → Bool
-fits s = and (in-range s) (leb (s .limit) 4096)
+fits s = and (in-range s) (and (leb (s .limit) 4096) (not (s .link .trailed)))
 
 -- what a run file says: the settings where its setup is good, the frames before its first bad record, and that record's number, from
 -- 0, where there is one

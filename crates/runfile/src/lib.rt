@@ -40,6 +40,7 @@ fn setup_of(body: &[u8]) -> Settings
     let link = Link {
         spacecraft: octets::octet(body, 0) as u32,
         channel: octets::octet(body, 1) as u32,
+        trailed: false,
     };
     Settings {
         link,
@@ -52,7 +53,7 @@ fn setup_of(body: &[u8]) -> Settings
 fn fits(s: Settings) -> bool
     ensures { λ r. ⌜ r ≡ fits s ⌝ }
 {
-    frames::in_range(s) & (s.limit <= MOST_LIMIT)
+    frames::in_range(s) & ((s.limit <= MOST_LIMIT) & !s.link.trailed)
 }
 
 // The number of the record that comes next, or of the one that was bad.
