@@ -16,15 +16,15 @@ use Rattle.arrays.specs.Arrays.{told, kept, bit, octet-of, count-of}
 use Rattle.exports.specs.Left.{Left, left}
 use Rattle.exports.specs.Channel.{link-of, zone-for}
 
--- whether an array is short: of four settings, or of a record's or an answer's numbers
+-- whether an array is short: of five settings, or of a record's or an answer's numbers
 unfoldable pub bits-short : ℕ → ℕ → ℕ → ℕ → ℕ → Bool
-bits-short settings numbers size answer room = or (ltb settings 4) (or (ltb numbers size) (ltb answer room))
+bits-short settings numbers size answer room = or (ltb settings 5) (or (ltb numbers size) (ltb answer room))
 
--- spacecraft, channel, W and the fill octet
+-- spacecraft, channel, W, the fill octet and the trailer
 unfoldable pub bit-settings-of : List ℕ → BitSettings
 bit-settings-of ns = record {
-  link = link-of ns;
-  width = zone-for (getD ns 2 0) (getD ns 3 0);
+  link = link-of ns (getD ns 4 0);
+  width = zone-for (getD ns 2 0) (getD ns 3 0) (getD ns 4 0);
   fill = octet-of (getD ns 3 0);
 }
 

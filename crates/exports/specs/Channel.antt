@@ -3,29 +3,29 @@ use Prim.Native.Nat.{ℕ}
 use mathlib.Core.List.{List}
 use mathlib.Core.Bool.{Bool}
 use lib.ListN.{getD}
-use lib.Dec.{leb, ltb}
-use Rattle.octets.specs.Basics.{pick, or}
+use lib.Dec.{leb, ltb, eqb}
+use Rattle.octets.specs.Basics.{pick, and, or}
 use Rattle.frames.specs.declared.Link.{Link}
 use Rattle.frames.specs.declared.Settings.{Settings}
 use Rattle.arrays.specs.Arrays.{octet-of, count-of}
 
--- whether an array is short: of five settings, of a record's four numbers, or of an answer's
+-- whether an array is short: of six settings, of a record's four numbers, or of an answer's
 unfoldable pub short : ℕ → ℕ → ℕ → ℕ → Bool
-short settings numbers answer room = or (ltb settings 5) (or (ltb numbers 4) (ltb answer room))
+short settings numbers answer room = or (ltb settings 6) (or (ltb numbers 4) (ltb answer room))
 
--- the octets of a zone: none, which is out of range, where the fill is no octet
-unfoldable pub zone-for : ℕ → ℕ → ℕ
-zone-for zone fill = pick (leb fill 255) zone 0
+-- the octets of a zone: none, which is out of range, where the fill is no octet or the trailer's number neither 0 nor 1
+unfoldable pub zone-for : ℕ → ℕ → ℕ → ℕ
+zone-for zone fill trailer = pick (and (leb fill 255) (leb trailer 1)) zone 0
 
--- spacecraft and channel
-unfoldable pub link-of : List ℕ → Link
-link-of ns = record { spacecraft = count-of (getD ns 0 0); channel = count-of (getD ns 1 0) }
+-- spacecraft and channel, and the trailer's number: 1 where frames have one
+unfoldable pub link-of : List ℕ → ℕ → Link
+link-of ns trailer = record { spacecraft = count-of (getD ns 0 0); channel = count-of (getD ns 1 0); trailed = eqb trailer 1 }
 
--- spacecraft, channel, Z, M and the fill octet
+-- spacecraft, channel, Z, M, the fill octet and the trailer
 unfoldable pub settings-of : List ℕ → Settings
 settings-of ns = record {
-  link = link-of ns;
-  zone = zone-for (getD ns 2 0) (getD ns 4 0);
+  link = link-of ns (getD ns 5 0);
+  zone = zone-for (getD ns 2 0) (getD ns 4 0) (getD ns 5 0);
   limit = getD ns 3 0;
   fill = octet-of (getD ns 4 0);
 }

@@ -26,7 +26,7 @@ use frames::ZONE_AT;
 use frames::bits::BitSettings;
 
 // The entries of the settings, of each record, and of the answer.
-const BIT_SETTINGS_ENTRIES: usize = 4;
+const BIT_SETTINGS_ENTRIES: usize = 5;
 
 const WRITER_ENTRIES: usize = 1;
 
@@ -45,10 +45,11 @@ fn bit_settings_of(numbers: &[u64]) -> BitSettings
     ensures { λ r. ⌜ r ≡ bit-settings-of (now (numbers .entry)) ⌝ }
 {
     let fill = entry(numbers, 3);
-    let link = link_of(numbers);
+    let trailer = entry(numbers, 4);
+    let link = link_of(numbers, trailer);
     BitSettings {
         link,
-        width: zone_for(entry(numbers, 2), fill),
+        width: zone_for(entry(numbers, 2), fill, trailer),
         fill: octet_of(fill),
     }
 }

@@ -8,7 +8,7 @@ use frames::Link;
 use frames::Settings;
 
 // The entries of the settings, and of a record.
-const SETTINGS_ENTRIES: usize = 5;
+const SETTINGS_ENTRIES: usize = 6;
 
 pub(crate) const RECORD_ENTRIES: usize = 4;
 
@@ -19,19 +19,22 @@ pub(crate) fn is_short(settings: usize, record: usize, answer: usize, room: usiz
     (settings < SETTINGS_ENTRIES) | ((record < RECORD_ENTRIES) | (answer < room))
 }
 
-// The octets of a zone, none where the fill is no octet.
-pub(crate) fn zone_for(zone: u64, fill: u64) -> usize
-    ensures { λ r. ⌜ r ≡ zone-for zone fill ⌝ }
+// The octets of a zone, none where the fill is no octet or the trailer's number neither 0 nor 1.
+pub(crate) fn zone_for(zone: u64, fill: u64, trailer: u64) -> usize
+    ensures { λ r. ⌜ r ≡ zone-for zone fill trailer ⌝ }
 {
-    if fill <= 255 { zone as usize } else { 0 }
+    let said = (fill <= 255) & (trailer <= 1);
+    if said { zone as usize } else { 0 }
 }
 
-pub(crate) fn link_of(numbers: &[u64]) -> Link
-    ensures { λ r. ⌜ r ≡ link-of (now (numbers .entry)) ⌝ }
+// Spacecraft and channel by their numbers, and the trailer by its own.
+pub(crate) fn link_of(numbers: &[u64], trailer: u64) -> Link
+    ensures { λ r. ⌜ r ≡ link-of (now (numbers .entry)) trailer ⌝ }
 {
     Link {
         spacecraft: count_of(entry(numbers, 0)),
         channel: count_of(entry(numbers, 1)),
+        trailed: trailer == 1,
     }
 }
 
@@ -39,10 +42,11 @@ pub(crate) fn settings_of(numbers: &[u64]) -> Settings
     ensures { λ r. ⌜ r ≡ settings-of (now (numbers .entry)) ⌝ }
 {
     let fill = entry(numbers, 4);
-    let link = link_of(numbers);
+    let trailer = entry(numbers, 5);
+    let link = link_of(numbers, trailer);
     Settings {
         link,
-        zone: zone_for(entry(numbers, 2), fill),
+        zone: zone_for(entry(numbers, 2), fill, trailer),
         limit: entry(numbers, 3) as usize,
         fill: octet_of(fill),
     }
