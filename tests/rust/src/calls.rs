@@ -6,7 +6,7 @@
 
 use crate::reference::bitstream::{self, Reader, Writer};
 use crate::reference::extractor::{self, Part, Step};
-use crate::reference::frame::Settings;
+use crate::reference::frame::{Settings, HEAD};
 use crate::reference::judge::{self, Verdict};
 use crate::reference::multiplexer;
 use crate::reference::packet::{self, Kind, Look};
@@ -14,8 +14,8 @@ use crate::reference::relay::{self, Entry, Table};
 use crate::reference::{space, wrap, Refusal};
 
 /// Entries of each array.
-pub const SETTINGS: usize = 5;
-pub const BIT_SETTINGS: usize = 4;
+pub const SETTINGS: usize = 6;
+pub const BIT_SETTINGS: usize = 5;
 pub const HEADER: usize = 6;
 pub const FORMED: usize = 1;
 pub const WRAPPED: usize = 1;
@@ -362,13 +362,12 @@ impl Calls for Reference {
                 let bits = bitstream::read(&settings, &mut reader, frame)?;
                 *record = [1, bits.count.into()];
                 let size = bits.octets.len();
-                let start = settings.frame_length() - settings.width;
                 Ok([
                     bits.count.into(),
                     bits.replay.into(),
                     bits.loss.into(),
                     bits.number as u64,
-                    start as u64,
+                    HEAD as u64,
                     size as u64,
                 ])
             },
@@ -458,6 +457,15 @@ fn number<T: TryFrom<u64>>(value: u64) -> Result<T, Refusal> {
     T::try_from(value).map_err(|_| Refusal::Range)
 }
 
+/// A setting that is 0 or 1; any other is out of range.
+fn yes_or_no(value: u64) -> Result<bool, Refusal> {
+    match value {
+        0 => Ok(false),
+        1 => Ok(true),
+        _ => Err(Refusal::Range),
+    }
+}
+
 /// A count in a record; one too great stays too great.
 fn fitted(value: u64) -> u32 {
     value.try_into().unwrap_or(u32::MAX)
@@ -477,23 +485,25 @@ fn read_space_fields(header: &[u64; SPACE_HEADER]) -> Result<space::Fields, Refu
 }
 
 fn read_settings(settings: &[u64; SETTINGS]) -> Result<Settings, Refusal> {
-    let [spacecraft, channel, zone, limit, fill] = *settings;
+    let [spacecraft, channel, zone, limit, fill, trailer] = *settings;
     Ok(Settings {
         spacecraft: number(spacecraft)?,
         channel: number(channel)?,
         zone: number(zone)?,
         limit: number(limit)?,
         fill: number(fill)?,
+        trailer: yes_or_no(trailer)?,
     })
 }
 
 fn read_bit_settings(settings: &[u64; BIT_SETTINGS]) -> Result<bitstream::Settings, Refusal> {
-    let [spacecraft, channel, width, fill] = *settings;
+    let [spacecraft, channel, width, fill, trailer] = *settings;
     Ok(bitstream::Settings {
         spacecraft: number(spacecraft)?,
         channel: number(channel)?,
         width: number(width)?,
         fill: number(fill)?,
+        trailer: yes_or_no(trailer)?,
     })
 }
 

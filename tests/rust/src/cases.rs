@@ -2,7 +2,8 @@
 //!
 //! Each case is named for what it shows. Where nothing else is said the channel
 //! is 3 of spacecraft 66, and the data octets are ones with which no packet can
-//! begin, so that a wrong start shows as damage.
+//! begin, so that a wrong start shows as damage. A run file has no place for the
+//! setting of trailers, so no frame has one.
 
 use crate::generate;
 use crate::random::Random;
@@ -61,7 +62,7 @@ impl From<Run> for Vec<u8> {
 }
 
 fn channel(zone: usize, limit: usize) -> Settings {
-    Settings { spacecraft: 66, channel: 3, zone, limit, fill: 0x55 }
+    Settings { spacecraft: 66, channel: 3, zone, limit, fill: 0x55, trailer: false }
 }
 
 pub fn setup_record(settings: &Settings) -> Vec<u8> {
@@ -761,7 +762,7 @@ fn verdicts(cases: &mut Cases) {
 /// Setups at the edges of their ranges.
 fn setups(cases: &mut Cases) {
     let of = |spacecraft, channel, zone, limit| {
-        let run = Run::of(Settings { spacecraft, channel, zone, limit, fill: 0 });
+        let run = Run::of(Settings { spacecraft, channel, zone, limit, fill: 0, trailer: false });
         run.frame(0, 0, &vec![0xE0; zone]).end()
     };
     cases.add("setup-all-least", of(0, 0, 1, 7));
@@ -814,7 +815,7 @@ fn bad_records(cases: &mut Cases) {
     cases.add("bad-record-after-a-fault", run().frame(0, 3, &zone).frame(9, 0, &zone).octets(&[9]));
 
     let of = |spacecraft, channel, zone, limit| {
-        Run::of(Settings { spacecraft, channel, zone, limit, fill: 0 }).end()
+        Run::of(Settings { spacecraft, channel, zone, limit, fill: 0, trailer: false }).end()
     };
     cases.add("bad-setup-channel-63", of(66, 63, 6, 64));
     cases.add("bad-setup-channel-64", of(66, 64, 6, 64));
@@ -839,7 +840,7 @@ fn random_runs(cases: &mut Cases) {
         let settings = Settings {
             zone: random.within(1, 24),
             limit: random.within(24, 60),
-            ..generate::settings(&mut random)
+            ..generate::settings_without_trailer(&mut random)
         };
         let mut frames = Vec::new();
         while frames.len() < 8 {

@@ -1,4 +1,5 @@
-//! Generators: settings, packets, runs that conform, relay tables, and ways to spoil them.
+//! Generators: settings, packets, runs that conform, relay tables, and ways to spoil them and the
+//! trailers of frames.
 
 use crate::calls::{BIT_SETTINGS, EXTRACTOR, JUDGE, MUX, RELAY, SETTINGS, SPACE_HEADER};
 use crate::random::Random;
@@ -6,9 +7,15 @@ use crate::reference::frame::{self, Settings, HEAD, IDLE_ZONE, NO_START, WHEEL};
 use crate::reference::multiplexer;
 use crate::reference::packet::IDLE_APID;
 use crate::reference::space;
+use crate::reference::trailer::{self, remainder, TRAILER};
+
+/// Settings in range, half of them with trailers.
+pub fn settings(random: &mut Random) -> Settings {
+    Settings { trailer: random.once_in(2), ..settings_without_trailer(random) }
+}
 
 /// Settings in range: every small zone, some great ones, limits at both ends.
-pub fn settings(random: &mut Random) -> Settings {
+pub fn settings_without_trailer(random: &mut Random) -> Settings {
     let zone = match random.within(1, 20) {
         1 => random.pick(&[1, 2, 6, 7, 8, 2_045, 2_046]),
         2 => random.within(41, 2_046),
@@ -30,13 +37,14 @@ pub fn settings(random: &mut Random) -> Settings {
         zone,
         limit,
         fill: random.octet(),
+        trailer: false,
     }
 }
 
 /// The settings as numbers.
 pub fn settings_numbers(settings: &Settings) -> [u64; SETTINGS] {
-    let Settings { spacecraft, channel, zone, limit, fill } = *settings;
-    [spacecraft.into(), channel.into(), zone as u64, limit as u64, fill.into()]
+    let Settings { spacecraft, channel, zone, limit, fill, trailer } = *settings;
+    [spacecraft.into(), channel.into(), zone as u64, limit as u64, fill.into(), trailer.into()]
 }
 
 /// Settings of which one is out of range, or at the edge of it.
@@ -44,14 +52,23 @@ pub fn settings_at_an_edge(random: &mut Random, settings: &Settings) -> [u64; SE
     let mut numbers = settings_numbers(settings);
     let huge = random.pick(&[u64::MAX, 1 << 32, (1 << 32) + 7, 1 << 16]);
     let least = settings.zone.max(7) as u64;
-    match random.within(0, 4) {
+    match random.within(0, 5) {
         0 => numbers[0] = random.pick(&[255, 256, huge]),
         1 => numbers[1] = random.pick(&[62, 63, 64, 255, 256, huge]),
         2 => numbers[2] = random.pick(&[0, 2_046, 2_047, numbers[3], numbers[3] + 1, huge]),
         3 => numbers[3] = random.pick(&[0, 6, least - 1, least, 65_542, 65_543, huge]),
-        _ => numbers[4] = random.pick(&[255, 256, huge]),
+        4 => numbers[4] = random.pick(&[255, 256, huge]),
+        _ => numbers[5] = other_trailer(random, numbers[5]),
     }
     numbers
+}
+
+/// The other setting of trailers, or what is none, at times one that looks like 0 or 1 in fewer
+/// bits.
+fn other_trailer(random: &mut Random, number: u64) -> u64 {
+    let alike = number.wrapping_add(random.pick(&[2, 1 << 8, 1 << 16, 1 << 32]));
+    let other = number ^ 1;
+    random.pick(&[other, other, alike, alike, 2, 255, u64::MAX])
 }
 
 /// Bitstream settings of which one is out of range, or at the edge of it.
@@ -61,11 +78,12 @@ pub fn bit_settings_at_an_edge(
 ) -> [u64; BIT_SETTINGS] {
     let mut numbers = numbers;
     let huge = random.pick(&[u64::MAX, 1 << 32, (1 << 32) + 7, 1 << 16]);
-    match random.within(0, 3) {
+    match random.within(0, 4) {
         0 => numbers[0] = random.pick(&[255, 256, huge]),
         1 => numbers[1] = random.pick(&[62, 63, 64, 255, 256, huge]),
         2 => numbers[2] = random.pick(&[0, 1, 2_047, 2_048, huge]),
-        _ => numbers[3] = random.pick(&[255, 256, huge]),
+        3 => numbers[3] = random.pick(&[255, 256, huge]),
+        _ => numbers[4] = other_trailer(random, numbers[4]),
     }
     numbers
 }
@@ -349,7 +367,7 @@ fn flush(settings: &Settings, record: &mut multiplexer::Record, frame: &mut [u8]
     let start = HEAD + record.filled;
     if multiplexer::flush(settings, record, frame).expect("no packet is open") {
         run.frames.push(frame.to_vec());
-        run.packets.push(frame[start..].to_vec());
+        run.packets.push(frame[start..settings.zone_end()].to_vec());
     }
 }
 
@@ -362,8 +380,114 @@ pub fn some_run(random: &mut Random, settings: &Settings) -> Vec<Vec<u8>> {
     frames
 }
 
-/// Spoils a run in one way. Frames may come out with another length.
+/// Spoils a run in one way. Frames may come out with another length. Where they have trailers, a
+/// frame that is changed mostly has its trailer made right again.
 pub fn spoil(random: &mut Random, settings: &Settings, frames: &mut Vec<Vec<u8>>) {
+    if !settings.trailer {
+        return spoil_frames(random, settings, frames);
+    }
+    if !frames.is_empty() && random.once_in(4) {
+        let place = random.within(0, frames.len() - 1);
+        return spoil_trailer(random, &mut frames[place]);
+    }
+    let before = frames.clone();
+    spoil_frames(random, settings, frames);
+    if !random.once_in(4) {
+        frames.iter_mut().filter(|frame| !before.contains(frame)).for_each(|frame| seal(frame));
+    }
+}
+
+/// Gives a frame of any length its right trailer.
+pub fn seal(frame: &mut [u8]) {
+    if frame.len() >= TRAILER {
+        trailer::write(frame);
+    }
+}
+
+/// Spoils a frame with a trailer in one way, after which the trailer is hardly ever right.
+pub fn spoil_trailer(random: &mut Random, frame: &mut Vec<u8>) {
+    if frame.len() <= HEAD + TRAILER {
+        return;
+    }
+    let end = frame.len() - TRAILER;
+    match random.within(1, 14) {
+        // Damage, in the header too, which is then refused for the trailer first.
+        1 | 2 => flip(random, frame, end, end + TRAILER - 1),
+        3 => flip(random, frame, 0, end - 1),
+        4 => flip(random, frame, 0, HEAD - 1),
+        5 => burst(random, frame),
+        // A frame without its trailer, and one with a second behind it.
+        6 => frame.truncate(end),
+        7 => {
+            frame.extend([0; TRAILER]);
+            trailer::write(frame);
+        }
+        8 => {
+            let any = random.any() as u16;
+            frame[end..].copy_from_slice(&random.pick(&[0, u16::MAX, any, any]).to_be_bytes());
+        }
+        _ => {
+            let (_, wrong) = random.pick(&WRONG_REMAINDERS);
+            let trailer = wrong(&frame[..end]).to_be_bytes();
+            frame[end..].copy_from_slice(&trailer);
+        }
+    }
+}
+
+/// Changes the first of sixteen bits in a row, and any of the others.
+fn burst(random: &mut Random, frame: &mut [u8]) {
+    let first = random.within(0, 8 * frame.len() - 16);
+    let bits = 0x8000 | random.any() as u16;
+    for place in (0..16).filter(|place| bits << place & 0x8000 != 0) {
+        let bit = first + place;
+        frame[bit / 8] ^= 0x80 >> (bit % 8);
+    }
+}
+
+/// A rule for the trailer of a frame, from all octets before it.
+pub type Rule = fn(&[u8]) -> u16;
+
+/// Rules that others might have for the same, each with what is wrong with it.
+pub const WRONG_REMAINDERS: [(&str, Rule); 14] = [
+    ("preset to zeros", |octets| register(0, CCITT, octets)),
+    ("inverted at the end", |octets| !remainder(octets)),
+    ("low octet first", |octets| remainder(octets).swap_bytes()),
+    ("bits turned round at the end", |octets| remainder(octets).reverse_bits()),
+    ("lowest bit of each octet first", |octets| register(u16::MAX, CCITT, &turned(octets))),
+    ("lowest bit first throughout", |octets| {
+        register(u16::MAX, CCITT, &turned(octets)).reverse_bits()
+    }),
+    ("generator X^16 + X^15 + X^2 + 1", |octets| register(u16::MAX, 0x8005, octets)),
+    ("generator turned round", |octets| register(u16::MAX, 0x0811, octets)),
+    ("over the zone alone", |octets| remainder(&octets[HEAD..])),
+    ("over the header alone", |octets| remainder(&octets[..HEAD])),
+    ("without the first octet", |octets| remainder(&octets[1..])),
+    ("without the last octet", |octets| remainder(&octets[..octets.len() - 1])),
+    ("over a trailer of zeros too", |octets| remainder(&[octets, &[0; TRAILER]].concat())),
+    ("a sum of the octets", |octets| {
+        octets.iter().fold(0, |sum: u16, &octet| sum.wrapping_add(octet.into()))
+    }),
+];
+
+/// X^12 + X^5 + 1.
+const CCITT: u16 = 0x1021;
+
+/// The register of such a rule, with this preset and this generator, behind the octets.
+fn register(preset: u16, generator: u16, octets: &[u8]) -> u16 {
+    octets.iter().fold(preset, |register, &octet| {
+        (0..8).fold(register ^ u16::from(octet) << 8, |register, _| {
+            register << 1 ^ if register >= 0x8000 { generator } else { 0 }
+        })
+    })
+}
+
+/// The octets with the bits of each in the other order.
+fn turned(octets: &[u8]) -> Vec<u8> {
+    octets.iter().map(|octet| octet.reverse_bits()).collect()
+}
+
+/// The ways to spoil a run that leave trailers out of account.
+fn spoil_frames(random: &mut Random, settings: &Settings, frames: &mut Vec<Vec<u8>>) {
     if frames.is_empty() {
         frames.push(random.octets(settings.frame_length()));
         return;
@@ -391,9 +515,9 @@ pub fn spoil(random: &mut Random, settings: &Settings, frames: &mut Vec<Vec<u8>>
         9 => frames.insert(place, idle_frame(random, settings)),
         // Damage.
         10 | 11 => flip(random, &mut frames[place], 0, HEAD - 1),
-        12 => flip(random, &mut frames[place], HEAD, settings.frame_length() - 1),
+        12 => flip(random, &mut frames[place], HEAD, settings.zone_end() - 1),
         13 => {
-            let at = random.within(HEAD, settings.frame_length() - 1);
+            let at = random.within(HEAD, settings.zone_end() - 1);
             let any = random.octet();
             if let Some(octet) = frames[place].get_mut(at) {
                 *octet = random.pick(&[0, 0xFF, 0xE0, 0xE1, 0x20, any]);
@@ -418,7 +542,7 @@ pub fn spoil(random: &mut Random, settings: &Settings, frames: &mut Vec<Vec<u8>>
         22 => frames[place].push(random.octet()),
         _ => {
             let zone = random.octets(settings.zone);
-            if let Some(part) = frames[place].get_mut(HEAD..settings.frame_length()) {
+            if let Some(part) = frames[place].get_mut(HEAD..settings.zone_end()) {
                 part.copy_from_slice(&zone);
             }
         }

@@ -6,6 +6,7 @@
 //! the one that comes first in the call's order.
 
 use crate::calls::{self, Calls};
+use crate::reference::trailer;
 
 /// A call and its refusals in the order of the checks.
 #[derive(Clone, Copy, Debug)]
@@ -13,6 +14,15 @@ pub struct Order {
     pub call: &'static str,
     pub refusals: &'static [u64],
 }
+
+impl Order {
+    /// Its refusals on a channel whose frames have trailers, or have none that could be wrong.
+    pub fn refusals(&self, trailer: bool) -> impl Iterator<Item = u64> {
+        self.refusals.iter().copied().filter(move |&refusal| trailer || refusal != WRONG_TRAILER)
+    }
+}
+
+const WRONG_TRAILER: u64 = 13;
 
 pub const ORDERS: [Order; 20] = [
     Order { call: "read_header", refusals: &[1] },
@@ -26,22 +36,22 @@ pub const ORDERS: [Order; 20] = [
     Order { call: "mux_put", refusals: &[1, 2, 10, 9, 8] },
     Order { call: "mux_flush", refusals: &[1, 2, 10, 9] },
     Order { call: "mux_idle", refusals: &[1, 2, 10, 9] },
-    Order { call: "extractor_enter", refusals: &[1, 2, 10, 9, 3, 4, 5, 6, 7] },
+    Order { call: "extractor_enter", refusals: &[1, 2, 10, 9, 3, 13, 4, 5, 6, 7] },
     Order { call: "extractor_step", refusals: &[1, 2, 10, 9, 3] },
     Order { call: "show", refusals: &[] },
     Order { call: "judge_frame", refusals: &[1, 2, 10, 11] },
     Order { call: "judge_close", refusals: &[1, 2, 10] },
     Order { call: "bits_write", refusals: &[1, 2, 10] },
-    Order { call: "bits_read", refusals: &[1, 10, 3, 4, 5, 6, 7] },
+    Order { call: "bits_read", refusals: &[1, 10, 3, 13, 4, 5, 6, 7] },
     Order { call: "relay_load", refusals: &[1, 12] },
     Order { call: "relay_route", refusals: &[1, 10, 8, 2] },
 ];
 
 /// The arguments of any of the calls.
-#[derive(Clone, Debug, PartialEq, Eq)]
+#[derive(Clone, Debug, Default, PartialEq, Eq)]
 pub struct Arguments {
-    /// Settings; or a limit, a protocol and an extension; or a space packet's fields; or the
-    /// answer of another call; or the entries of a relay table.
+    /// Settings, and behind them how many bits are offered; or a limit, a protocol and an extension;
+    /// or a space packet's fields; or the answer of another call; or the entries of a relay table.
     pub numbers: Vec<u64>,
     /// A record, a relay table among them.
     pub record: Vec<u64>,
@@ -54,11 +64,15 @@ pub struct Arguments {
 
 const TOO_GREAT: u64 = 1 << 24;
 
-/// Arguments for a call with these refusals in them.
-pub fn arguments(call: &str, refusals: &[u64]) -> Arguments {
+/// Arguments for a call with these refusals in them, on a channel whose frames have trailers or
+/// have none.
+pub fn arguments(call: &str, refusals: &[u64], trailer: bool) -> Arguments {
     let packet = vec![0xEA, 0x00, 0x00, 0x07, 0xA1, 0xA2, 0xA3];
-    let channel = vec![66, 3, 10, 64, 0x55];
-    let frame = [&[0x50, 0x83, 0, 0, 5, 0, 0, 0][..], &[0xE0; 10]].concat();
+    let channel = vec![66, 3, 10, 64, 0x55, trailer.into()];
+    let bit_channel = vec![66, 3, 10, 0x55, trailer.into()];
+    let mut frame = [&[0x50, 0x83, 0, 0, 5, 0, 0, 0][..], &[0xE0; 10]].concat();
+    frame.resize(if trailer { 20 } else { 18 }, 0);
+    let written = vec![0; frame.len()];
     let table = [&[2, 5, 7, 5, 9][..], &[0; calls::RELAY - 5]].concat();
     let space = vec![0x00, 0x05, 0xC0, 0x00, 0x00, 0x00, 0xA1];
     let (numbers, record, octets, buffer, answer) = match call {
@@ -70,24 +84,32 @@ pub fn arguments(call: &str, refusals: &[u64]) -> Arguments {
         "write_space" => (vec![0, 0, 0, 5, 3, 0, 1], vec![], vec![], vec![0; 6], 0),
         "unit_part" => (vec![2, 0, 4, 3], vec![], packet, vec![], calls::UNIT),
         "mux_begin" => (vec![], vec![7; 4], vec![], vec![], 0),
-        "mux_put" => (channel, vec![5, 0, 2_047, 0], packet, vec![0; 18], calls::PUT),
-        "mux_flush" => (channel, vec![5, 0, 2_047, 0], vec![], vec![0; 18], calls::FLUSH),
-        "mux_idle" => (channel, vec![5, 0, 2_047, 0], vec![], vec![0; 18], 0),
+        "mux_put" => (channel, vec![5, 0, 2_047, 0], packet, written, calls::PUT),
+        "mux_flush" => (channel, vec![5, 0, 2_047, 0], vec![], written, calls::FLUSH),
+        "mux_idle" => (channel, vec![5, 0, 2_047, 0], vec![], written, 0),
         "extractor_enter" => (channel, vec![2, 4, 0, 0], frame, vec![0; 64], calls::ENTERED),
         "extractor_step" => (channel, vec![3, 5, 0, 0], frame, vec![0; 64], calls::STEP),
         "show" => (vec![1, 1, 8, 10], vec![], frame, vec![0; 64], calls::SHOWN),
         "judge_frame" => (channel, vec![1, 5, 4, 0], frame, vec![0; 64], 0),
         "judge_close" => (channel, vec![1, 5, 4, 0], vec![], vec![0; 64], calls::VERDICT),
-        "bits_write" => (vec![66, 3, 10, 0x55], vec![5], vec![0xA1; 2], vec![0; 18], 0),
-        "bits_read" => (vec![66, 3, 10, 0x55], vec![1, 4], frame, vec![], calls::BITS),
+        "bits_write" => ([bit_channel, vec![13]].concat(), vec![5], vec![0xA1; 2], written, 0),
+        "bits_read" => (bit_channel, vec![1, 4], frame, vec![], calls::BITS),
         "relay_load" => (vec![6, 1, 5, 255], table, vec![], vec![], 0),
         "relay_route" => (vec![64], table, space, vec![0; 2], calls::ROUTED),
         _ => panic!("no call {call}"),
     };
     let answer = vec![u64::MAX; answer];
     let mut arguments = Arguments { numbers, record, octets, buffer, answer };
-    for &refusal in refusals {
+    for &refusal in refusals.iter().filter(|&&refusal| refusal != WRONG_TRAILER) {
         change(call, refusal, &mut arguments);
+    }
+    // The frame has its other changes now. That of a step keeps a wrong trailer.
+    if trailer && matches!(call, "extractor_enter" | "judge_frame" | "bits_read") {
+        trailer::write(&mut arguments.octets);
+        if refusals.contains(&WRONG_TRAILER) {
+            let last = arguments.octets.len() - 1;
+            arguments.octets[last] ^= 0x01;
+        }
     }
     arguments
 }
@@ -147,7 +169,10 @@ pub fn make(calls: &dyn Calls, call: &str, arguments: &mut Arguments) -> u64 {
         "show" => calls.show(numbers, octets, buffer, answer),
         "judge_frame" => calls.judge_frame(numbers, record, buffer, octets),
         "judge_close" => calls.judge_close(numbers, record, buffer, answer),
-        "bits_write" => calls.bits_write(numbers, record, octets, 13, buffer),
+        "bits_write" => match numbers.split_last() {
+            Some((&number, numbers)) => calls.bits_write(numbers, record, octets, number, buffer),
+            None => panic!("no number of bits"),
+        },
         "bits_read" => calls.bits_read(numbers, record, octets, answer),
         "relay_load" => calls.relay_load(numbers, record),
         "relay_route" => calls.relay_route(numbers[0], record, octets, buffer, answer),

@@ -5,7 +5,7 @@
 //! step as the library has to.
 
 use crate::reference::extractor::{Entered, Reason};
-use crate::reference::frame::{self, Head, Settings, HEAD, IDLE_ZONE, NO_START};
+use crate::reference::frame::{self, Head, Settings, IDLE_ZONE, NO_START};
 use crate::reference::packet::{look, Header, Look, LONGEST_HEADER};
 use crate::reference::Refusal;
 
@@ -44,7 +44,7 @@ impl Extractor {
             Ok(head) => head,
             Err(refusal) => return hear(Event::Refused(refusal)),
         };
-        let zone = &frame[HEAD..];
+        let zone = self.settings.zone_of(frame);
         let joined = self.joined(zone);
         let entered = self.enter(head, joined, zone.len());
         hear(Event::Entered(entered));

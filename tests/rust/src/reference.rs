@@ -14,6 +14,7 @@ pub mod packet;
 pub mod relay;
 pub mod runfile;
 pub mod space;
+pub mod trailer;
 pub mod wrap;
 
 /// Why a call was refused.
@@ -43,6 +44,8 @@ pub enum Refusal {
     Beyond = 11,
     /// Too many entries for a relay table, an APID past those of it, or a pair twice.
     Table = 12,
+    /// The trailer of a frame to be read is wrong.
+    Trailer = 13,
 }
 
 impl Refusal {

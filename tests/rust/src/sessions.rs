@@ -15,6 +15,7 @@ use crate::reference::bitstream::octets_for;
 use crate::reference::frame::{Settings, HEAD, WHEEL};
 use crate::reference::packet::LIMITS;
 use crate::reference::relay::MOST_ENTRIES;
+use crate::reference::trailer::TRAILER;
 
 /// What the calls have met: how often each call gave each refusal, 0 being none,
 /// and how often other things were said.
@@ -324,9 +325,15 @@ fn multiplexing(pair: &mut Pair, random: &mut Random) -> Result<(), Difference> 
     let mut packet = generate::packet(random, &settings);
     for _ in 0..random.within(4, 60) {
         let numbers = some_settings(random, &settings);
+        if random.once_in(12) {
+            // Another frame is lent.
+            lent.buffer = random.octets(size);
+        }
         let whole = lent.clone();
         if random.once_in(25) {
             lent.buffer.truncate(room(random, settings.frame_length()));
+        } else if random.once_in(50) {
+            lent.buffer.truncate(settings.frame_length() - random.within(1, TRAILER + 1));
         }
         match random.within(1, 12) {
             1 => flush(pair, random, &numbers, &mut lent)?,
@@ -593,7 +600,10 @@ fn bits(pair: &mut Pair, random: &mut Random) -> Result<(), Difference> {
         _ => random.within(1, 40),
     };
     let channel = random.within(0, 62) as u64;
-    let settings = [random.octet().into(), channel, width as u64, random.octet().into()];
+    let trailer = random.once_in(2);
+    let length = HEAD + width + if trailer { TRAILER } else { 0 };
+    let (spacecraft, fill) = (random.octet().into(), random.octet().into());
+    let settings = [spacecraft, channel, width as u64, fill, trailer.into()];
     let mut writer = vec![random.any() % u64::from(WHEEL)];
     if random.once_in(2) {
         writer[0] = u64::from(WHEEL) - random.within(0, 4) as u64;
@@ -613,7 +623,7 @@ fn bits(pair: &mut Pair, random: &mut Random) -> Result<(), Difference> {
         };
         let offered = room(random, octets_for(number));
         let offered = random.octets(offered);
-        let buffer = room(random, width + HEAD);
+        let buffer = room(random, length);
         let numbers = if random.once_in(25) {
             generate::bit_settings_at_an_edge(random, settings)
         } else {
@@ -628,7 +638,7 @@ fn bits(pair: &mut Pair, random: &mut Random) -> Result<(), Difference> {
 
         // The frame is read again, at times spoilt, and at times not at all.
         let mut frame = lent.buffer;
-        frame.truncate(width + HEAD);
+        frame.truncate(length);
         match random.within(1, 8) {
             1 => continue,
             2 => {
@@ -644,6 +654,13 @@ fn bits(pair: &mut Pair, random: &mut Random) -> Result<(), Difference> {
             }
             4 if random.once_in(3) => frame.push(0),
             _ => {}
+        }
+        if trailer {
+            match random.within(1, 5) {
+                1 => {}
+                2 => generate::spoil_trailer(random, &mut frame),
+                _ => generate::seal(&mut frame),
+            }
         }
         let answer = answer(random, calls::BITS);
         let mut lent = Lent { record: reader, buffer: vec![], answer };
@@ -729,6 +746,9 @@ fn any_record(pair: &mut Pair, random: &mut Random) -> Result<(), Difference> {
         let frame = if frames.is_empty() || random.once_in(4) {
             let mut frame = random.octets(settings.frame_length());
             frame[..2].copy_from_slice(&[0x40, 0x00]);
+            if settings.trailer && random.once_in(2) {
+                generate::seal(&mut frame);
+            }
             frame
         } else {
             frames[random.within(0, frames.len() - 1)].clone()
@@ -793,7 +813,7 @@ fn short_arrays(pair: &mut Pair, random: &mut Random) -> Result<(), Difference> 
         numbers
     };
     let channel = generate::settings_numbers(&settings);
-    let bit_settings = [channel[0], channel[1], channel[2], channel[4]];
+    let bit_settings = [channel[0], channel[1], channel[2], channel[4], channel[5]];
     for short in 0..4 {
         let all = |random: &mut Random, settings: &[u64], record: &[u64], answer: usize| {
             let settings = cut(random, settings, short == 1);
@@ -924,10 +944,11 @@ fn short_arrays(pair: &mut Pair, random: &mut Random) -> Result<(), Difference> 
 fn several_refusals(pair: &mut Pair, random: &mut Random) -> Result<(), Difference> {
     for order in &ORDERS {
         for _ in 0..6 {
+            let trailer = random.once_in(2);
             let refusals: Vec<u64> =
-                order.refusals.iter().copied().filter(|_| random.once_in(3)).collect();
+                order.refusals(trailer).filter(|_| random.once_in(3)).collect();
             let Arguments { numbers, record, octets, buffer, answer } =
-                orders::arguments(order.call, &refusals);
+                orders::arguments(order.call, &refusals, trailer);
             let mut lent = Lent { record, buffer, answer };
             pair.both(order.call, &numbers, &octets, &mut lent, |calls, lent| {
                 let Lent { record, buffer, answer } = lent.clone();

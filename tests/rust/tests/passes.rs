@@ -22,7 +22,7 @@ const SECOND: [u8; 18] = [
 ];
 
 const CHANNEL: Settings =
-    Settings { spacecraft: 66, channel: 3, zone: 10, limit: 1_024, fill: 0x55 };
+    Settings { spacecraft: 66, channel: 3, zone: 10, limit: 1_024, fill: 0x55, trailer: false };
 
 /// The sample's second frame with another count and pointer.
 fn second(count: u8, pointer: u16) -> [u8; 18] {
@@ -233,7 +233,8 @@ fn pass_12_the_longest_space_packet() {
 
 #[test]
 fn pass_13_bits_in_one_octet() {
-    let settings = bitstream::Settings { spacecraft: 66, channel: 3, width: 1, fill: 0x55 };
+    let settings =
+        bitstream::Settings { spacecraft: 66, channel: 3, width: 1, fill: 0x55, trailer: false };
     let mut writer = Writer::START;
     let mut reader = Reader::START;
     for (number, pointer, octet) in [(7, 6, 0xFF), (8, 16_383, 0xFE), (0, 16_382, 0x55)] {

@@ -21,7 +21,7 @@ fn the_plain_extractor_hears_what_the_reference_hears() {
             numbers.insert(number);
         }
     }
-    assert!(refusals.into_iter().eq(3..=7));
+    assert!(refusals.into_iter().eq([3, 4, 5, 6, 7, 13]));
     assert!(steps.into_iter().eq(1..=3));
     assert!(reasons.into_iter().eq(0..=3));
 }

@@ -8,24 +8,24 @@ use itzahuemo_reference::reference::packet::read_header;
 use itzahuemo_reference::reference::wrap::{unwrap, wrap};
 use itzahuemo_reference::reference::{extractor, judge, multiplexer, Refusal};
 
-const CHANNEL: Settings = Settings { spacecraft: 66, channel: 3, zone: 10, limit: 64, fill: 0x55 };
+const CHANNEL: Settings =
+    Settings { spacecraft: 66, channel: 3, zone: 10, limit: 64, fill: 0x55, trailer: false };
 
 /// For every set of refusals that could be given, the first in order is; and a
 /// refused call changes nothing but its answer, which it sets to zeros.
 #[test]
 fn the_first_in_order() {
-    for order in &ORDERS {
-        for set in 0..1_u32 << order.refusals.len() {
+    for (order, trailer) in ORDERS.iter().flat_map(|order| [(order, false), (order, true)]) {
+        let possible: Vec<u64> = order.refusals(trailer).collect();
+        for set in 0..1_u32 << possible.len() {
             let chosen = |place: &usize| set >> place & 1 == 1;
-            let refusals: Vec<u64> = (0..order.refusals.len())
-                .filter(chosen)
-                .map(|place| order.refusals[place])
-                .collect();
-            let lent = arguments(order.call, &refusals);
+            let refusals: Vec<u64> =
+                (0..possible.len()).filter(chosen).map(|place| possible[place]).collect();
+            let lent = arguments(order.call, &refusals, trailer);
             let mut after = lent.clone();
             let refusal = make(&Reference, order.call, &mut after);
             let first = refusals.first().copied().unwrap_or(0);
-            assert_eq!(refusal, first, "{} with {refusals:?}", order.call);
+            assert_eq!(refusal, first, "{} with {refusals:?}, trailer {trailer}", order.call);
             if refusal != 0 {
                 assert!(after.answer.iter().all(|&number| number == 0));
                 after.answer.clone_from(&lent.answer);
@@ -308,7 +308,9 @@ fn a_step_on_another_frame() {
 
 #[test]
 fn bits() {
-    let settings = bitstream::Settings { spacecraft: 66, channel: 3, width: 2, fill: 0b1010_1010 };
+    let fill = 0b1010_1010;
+    let settings =
+        bitstream::Settings { spacecraft: 66, channel: 3, width: 2, fill, trailer: false };
     let mut frame = [0x77; 11];
     let mut writer = Writer { count: (1 << 24) - 1 };
     bitstream::write(&settings, &mut writer, &[0b0110_0000], 3, &mut frame).unwrap();
@@ -349,7 +351,8 @@ fn bits() {
 #[test]
 fn bit_settings_at_the_edges() {
     let write = |channel, width| {
-        let settings = bitstream::Settings { spacecraft: 66, channel, width, fill: 0 };
+        let settings =
+            bitstream::Settings { spacecraft: 66, channel, width, fill: 0, trailer: false };
         bitstream::write(&settings, &mut Writer::START.clone(), &[], 0, &mut [0; 3_000])
     };
     for (channel, width) in [(0, 1), (62, 2_047)] {
@@ -364,7 +367,8 @@ fn bit_settings_at_the_edges() {
 /// entry that its kind has no use for.
 #[test]
 fn numbers_that_are_no_record() {
-    let settings = [66, 3, 10, 64, 0];
+    let settings = [66, 3, 10, 64, 0, 0];
+    let bit_settings = [66, 3, 10, 0, 0];
     let frame = [&[0x50, 0x83, 0, 0, 5, 0, 0x07, 0xFE][..], &[0; 10]].concat();
     let great = 1 << 32;
     for record in [
@@ -417,7 +421,7 @@ fn numbers_that_are_no_record() {
     }
     for record in [[0, 1], [1, great], [2, 0], [u64::MAX, 0]] {
         let mut after = record;
-        assert_eq!(Reference.bits_read(&settings[..4], &mut after, &frame, &mut [0; 6]), 10);
+        assert_eq!(Reference.bits_read(&bit_settings, &mut after, &frame, &mut [0; 6]), 10);
         assert_eq!(after, record);
     }
 }
@@ -425,8 +429,19 @@ fn numbers_that_are_no_record() {
 /// Settings and arguments too great for any use.
 #[test]
 fn numbers_out_of_range() {
-    for (place, number) in [(0, 256), (1, 63), (1, 1 << 32), (2, 1 << 32), (3, 1 << 33), (4, 256)] {
-        let mut settings = [66, 3, 10, 64, 0];
+    for (place, number) in [
+        (0, 256),
+        (1, 63),
+        (1, 1 << 32),
+        (2, 1 << 32),
+        (3, 1 << 33),
+        (4, 256),
+        (5, 2),
+        (5, 256),
+        (5, (1 << 32) + 1),
+        (5, u64::MAX),
+    ] {
+        let mut settings = [66, 3, 10, 64, 0, 0];
         settings[place] = number;
         let mut record = [0, 0, 2_047, 0];
         assert_eq!(Reference.mux_idle(&settings, &mut record, &mut [0; 18]), 1);
@@ -435,7 +450,7 @@ fn numbers_out_of_range() {
     for (protocol, extension) in [(256 + 2, 0), (2, 256), (u64::MAX, 0)] {
         assert_eq!(Reference.wrap(64, protocol, extension, &[1], &mut [0; 9], &mut answer), 1);
     }
-    let settings = [66, 3, 10, 0];
+    let settings = [66, 3, 10, 0, 0];
     assert_eq!(Reference.bits_write(&settings, &mut [0], &[], u64::MAX, &mut [0; 18]), 1);
 }
 
@@ -446,12 +461,13 @@ fn short_arrays() {
     assert_eq!(Reference.read_header(6, &[], &mut answer), 2);
     assert_eq!(answer, [7; 2]);
     let mut record = [0, 0, 0, 0];
-    assert_eq!(Reference.judge_close(&[66, 63, 10, 64], &record, &[], &mut answer), 2);
-    assert_eq!(Reference.judge_close(&[66, 63, 10, 64, 0], &record[..3], &[], &mut answer), 2);
-    assert_eq!(Reference.judge_close(&[66, 63, 10, 64, 0], &record, &[], &mut answer[..1]), 2);
+    let settings = [66, 63, 10, 64, 0, 0];
+    assert_eq!(Reference.judge_close(&settings[..5], &record, &[], &mut answer), 2);
+    assert_eq!(Reference.judge_close(&settings, &record[..3], &[], &mut answer), 2);
+    assert_eq!(Reference.judge_close(&settings, &record, &[], &mut answer[..1]), 2);
     assert_eq!(answer, [7; 2]);
-    assert_eq!(Reference.judge_close(&[66, 63, 10, 64, 0], &record, &[], &mut answer), 1);
+    assert_eq!(Reference.judge_close(&settings, &record, &[], &mut answer), 1);
     assert_eq!(answer, [0; 2]);
-    assert_eq!(Reference.judge_frame(&[66, 3, 10, 64, 0], &mut record, &mut [0; 64], &[]), 0);
+    assert_eq!(Reference.judge_frame(&[66, 3, 10, 64, 0, 0], &mut record, &mut [0; 64], &[]), 0);
     assert_eq!(record, [2, 1, 0, 0]);
 }

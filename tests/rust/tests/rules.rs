@@ -1,8 +1,10 @@
 //! Whole frames and whole runs, read a second way.
 //!
-//! Here document 01's rules are taken over lists of octets, a frame at a time and
-//! a run at a time, with no record, store or walk; and the reference is held
-//! against them.
+//! Here document 01's rules, with document 02's trailers, are taken over lists of
+//! octets, a frame at a time and a run at a time, with no record, store or walk;
+//! and the reference is held against them.
+
+use std::collections::BTreeMap;
 
 use itzahuemo_reference::generate;
 use itzahuemo_reference::random::Random;
@@ -53,10 +55,30 @@ fn is_idle(packet: &[u8]) -> bool {
     }
 }
 
-/// Document 01's refusals 3 to 7, or the count, the replay flag and the pointer.
+/// Source 004's syndrome of a frame with its trailer, [X^16 C(X) + X^n L(X)] modulo G(X), by long
+/// division: n bits of the frame and sixteen zeros, with ones added to the first sixteen.
+fn syndrome(frame: &[u8]) -> Vec<bool> {
+    let bits =
+        frame.iter().flat_map(|octet| (0..8).rev().map(move |place| octet >> place & 1 == 1));
+    let mut dividend: Vec<bool> = bits.chain([false; 16]).collect();
+    dividend[..16].iter_mut().for_each(|bit| *bit = !*bit);
+    for place in 0..dividend.len() - 16 {
+        if dividend[place] {
+            for power in [16, 12, 5, 0] {
+                dividend[place + 16 - power] ^= true;
+            }
+        }
+    }
+    dividend.split_off(dividend.len() - 16)
+}
+
+/// The refusals 3, 13 and 4 to 7, or the count, the replay flag and the pointer.
 fn header(settings: &Settings, frame: &[u8]) -> Result<(usize, bool, usize), u64> {
-    if frame.len() != settings.zone + 8 {
+    if frame.len() != settings.zone + if settings.trailer { 10 } else { 8 } {
         return Err(3);
+    }
+    if settings.trailer && syndrome(frame).contains(&true) {
+        return Err(13);
     }
     if frame[0] / 64 != 1 {
         return Err(4);
@@ -97,7 +119,7 @@ struct State {
 
 fn said_of(settings: &Settings, state: &mut State, frame: &[u8]) -> Said {
     let (count, replay, pointer) = header(settings, frame)?;
-    let zone = &frame[8..];
+    let zone = &frame[8..8 + settings.zone];
     let wheel = 16_777_216;
     let lost = state.last.map_or(0, |last| (count + 2 * wheel - last - 1) % wheel);
     state.last = Some(count);
@@ -191,7 +213,8 @@ fn carried(settings: &Settings, frames: &[Vec<u8>]) -> Option<Vec<Vec<u8>>> {
         return None;
     }
     let laid = || frames.iter().zip(&heads).filter(|(_, head)| head.2 != 2_046);
-    let octets: Vec<u8> = laid().flat_map(|(frame, _)| frame[8..].to_vec()).collect();
+    let octets: Vec<u8> =
+        laid().flat_map(|(frame, _)| frame[8..8 + settings.zone].to_vec()).collect();
 
     let (mut packets, mut starts) = (Vec::new(), vec![]);
     let mut place = 0;
@@ -262,6 +285,7 @@ fn for_many_runs(mut look: impl FnMut(&Settings, &[Vec<u8>])) {
 #[test]
 fn events_are_those_of_the_rules() {
     let mut reasons = [0; 4];
+    let mut refusals = BTreeMap::new();
     for_many_runs(|settings, frames| {
         let mut state = State::default();
         let mut record = extractor::Record::Fresh;
@@ -284,11 +308,16 @@ fn events_are_those_of_the_rules() {
             assert_eq!(state, stands);
             match rules {
                 Ok((.., reason, _)) => reasons[reason as usize] += 1,
-                Err(_) => assert_eq!(before, (record, store.clone())),
+                Err(number) => {
+                    assert_eq!(before, (record, store.clone()));
+                    *refusals.entry(number).or_insert(0) += 1;
+                }
             }
         }
     });
     assert!(reasons.iter().all(|&times| times > 100), "{reasons:?}");
+    assert!(refusals.keys().eq(&[3, 4, 5, 6, 7, 13]), "{refusals:?}");
+    assert!(refusals.values().all(|&times| times > 100), "{refusals:?}");
 }
 
 /// The judge passes exactly the runs that carry some list of packets, and a fresh

@@ -3,7 +3,7 @@
 use std::ops::RangeInclusive;
 
 use super::frame::{self, read_primary, write_primary, HEAD, LAST_CHANNEL, WHEEL};
-use super::{require, Refusal};
+use super::{require, trailer, Refusal};
 
 /// The zone lengths that may be set.
 pub const WIDTHS: RangeInclusive<usize> = 1..=2_047;
@@ -23,6 +23,8 @@ pub struct Settings {
     pub width: usize,
     /// The octet whose bits fill a zone's rest.
     pub fill: u8,
+    /// Whether frames end with a trailer.
+    pub trailer: bool,
 }
 
 impl Settings {
@@ -31,6 +33,11 @@ impl Settings {
     }
 
     pub fn frame_length(&self) -> usize {
+        self.zone_end() + trailer::length(self.trailer)
+    }
+
+    /// The place behind the zone.
+    fn zone_end(&self) -> usize {
         HEAD + self.width
     }
 
@@ -91,7 +98,7 @@ pub fn write(
     require(frame.len() >= settings.frame_length() && bits.len() >= octets, Refusal::Room)?;
     require(writer.count < WHEEL, Refusal::Record)?;
 
-    let zone = &mut frame[HEAD..settings.frame_length()];
+    let zone = &mut frame[HEAD..settings.zone_end()];
     zone.fill(settings.fill);
     zone[..octets].copy_from_slice(&bits[..octets]);
     let over = number % 8;
@@ -101,6 +108,9 @@ pub fn write(
     }
     write_primary(settings.spacecraft, settings.channel, writer.count, frame);
     frame[6..HEAD].copy_from_slice(&pointer(settings, number).to_be_bytes());
+    if settings.trailer {
+        trailer::write(&mut frame[..settings.frame_length()]);
+    }
     writer.count = frame::next(writer.count);
     Ok(())
 }
@@ -115,7 +125,7 @@ fn pointer(settings: &Settings, number: usize) -> u16 {
     }
 }
 
-/// Reads a frame of bits. Checks: 1, 10, 3, 4, 5, 6, 7.
+/// Reads a frame of bits. Checks: 1, 10, 3, 13, 4, 5, 6, 7.
 pub fn read<'a>(
     settings: &Settings,
     reader: &mut Reader,
@@ -124,6 +134,7 @@ pub fn read<'a>(
     settings.check()?;
     require(reader.last.map_or(true, |last| last < WHEEL), Refusal::Record)?;
     require(frame.len() == settings.frame_length(), Refusal::Length)?;
+    require(!settings.trailer || trailer::is_right(frame), Refusal::Trailer)?;
     let (count, replay) = read_primary(settings.spacecraft, settings.channel, frame)?;
     let word = u16::from_be_bytes([frame[6], frame[7]]);
     require(word >> 14 == 0, Refusal::Spare)?;

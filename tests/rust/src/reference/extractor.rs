@@ -101,7 +101,7 @@ pub fn show<'a>(part: Part, store: &'a [u8], frame: &'a [u8]) -> &'a [u8] {
     octets.unwrap_or(&[])
 }
 
-/// Enters a frame. Checks: 1, 2, 10, 9, 3, 4, 5, 6, 7.
+/// Enters a frame. Checks: 1, 2, 10, 9, 3, 13, 4, 5, 6, 7.
 pub fn enter(
     settings: &Settings,
     record: &mut Record,
@@ -116,7 +116,7 @@ pub fn enter(
         Record::Walking { .. } | Record::Leaving { .. } => return Err(Refusal::Moment),
     };
     let head = frame::read(settings, frame)?;
-    let (entered, walk) = begin(settings, last, held, store, head, &frame[HEAD..]);
+    let (entered, walk) = begin(settings, last, held, store, head, settings.zone_of(frame));
     *record = match walk {
         Some(Walk { held, at }) => Record::Walking { last: head.count, held, at },
         None => Record::Leaving { last: head.count },
@@ -140,7 +140,7 @@ pub fn step(
         }
     };
     require(frame.len() == settings.frame_length(), Refusal::Length)?;
-    let walked = walk.map(|walk| walk_on(settings, walk, store, &frame[HEAD..]));
+    let walked = walk.map(|walk| walk_on(settings, walk, store, settings.zone_of(frame)));
     let (said, next) = match walked {
         None => (Step::Spent, Record::OutOfStep { last }),
         Some(Walked::Packet { kind, part, at }) => {

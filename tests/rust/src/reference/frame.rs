@@ -3,7 +3,7 @@
 use std::ops::RangeInclusive;
 
 use super::packet::LIMITS;
-use super::{require, Refusal};
+use super::{require, trailer, Refusal};
 
 /// Octets in front of a zone.
 pub const HEAD: usize = 8;
@@ -34,6 +34,8 @@ pub struct Settings {
     pub limit: usize,
     /// The octet written where nothing is sent.
     pub fill: u8,
+    /// Whether frames end with a trailer.
+    pub trailer: bool,
 }
 
 impl Settings {
@@ -49,7 +51,17 @@ impl Settings {
     }
 
     pub fn frame_length(&self) -> usize {
+        self.zone_end() + trailer::length(self.trailer)
+    }
+
+    /// The place behind the zone.
+    pub fn zone_end(&self) -> usize {
         HEAD + self.zone
+    }
+
+    /// The zone of a frame that has its length.
+    pub fn zone_of<'a>(&self, frame: &'a [u8]) -> &'a [u8] {
+        &frame[HEAD..self.zone_end()]
     }
 }
 
@@ -61,9 +73,10 @@ pub struct Head {
     pub pointer: u16,
 }
 
-/// Reads a frame's header under settings in range. Checks: 3, 4, 5, 6, 7.
+/// Reads a frame's header under settings in range. Checks: 3, 13, 4, 5, 6, 7.
 pub fn read(settings: &Settings, frame: &[u8]) -> Result<Head, Refusal> {
     require(frame.len() == settings.frame_length(), Refusal::Length)?;
+    require(!settings.trailer || trailer::is_right(frame), Refusal::Trailer)?;
     let (count, replay) = read_primary(settings.spacecraft, settings.channel, frame)?;
     let word = u16::from_be_bytes([frame[6], frame[7]]);
     require(word >> 11 == 0, Refusal::Spare)?;
@@ -72,7 +85,7 @@ pub fn read(settings: &Settings, frame: &[u8]) -> Result<Head, Refusal> {
     Ok(Head { count, replay, pointer: word })
 }
 
-/// Writes the header of a frame under settings in range; the zone is left alone.
+/// Writes the header of a frame under settings in range; the rest is left alone.
 pub fn write(settings: &Settings, count: u32, pointer: u16, frame: &mut [u8]) {
     write_primary(settings.spacecraft, settings.channel, count, frame);
     frame[6..HEAD].copy_from_slice(&pointer.to_be_bytes());

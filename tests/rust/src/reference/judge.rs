@@ -1,7 +1,7 @@
 //! The judge of a recorded run.
 
 use super::extractor::{begin, holds_well, walk_on, Reason, Walk, Walked};
-use super::frame::{self, Settings, HEAD, WHEEL};
+use super::frame::{self, Settings, WHEEL};
 use super::{require, Refusal};
 
 /// A judged run has at most this many frames.
@@ -99,7 +99,7 @@ fn follow(
     frame: &[u8],
 ) -> Option<(u32, usize)> {
     let head = frame::read(settings, frame).ok()?;
-    let zone = &frame[HEAD..];
+    let zone = settings.zone_of(frame);
     let (entered, walk) = begin(settings, last, Some(held), store, head, zone);
     if entered.reason != Reason::None {
         return None;

@@ -2,7 +2,7 @@
 
 use super::frame::{self, Settings, HEAD, IDLE_ZONE, NO_START, WHEEL};
 use super::packet::well_formed;
-use super::{require, Refusal};
+use super::{require, trailer, Refusal};
 
 /// Where the multiplexer stands.
 #[derive(Clone, Copy, Debug, PartialEq, Eq)]
@@ -78,7 +78,7 @@ pub fn flush(settings: &Settings, record: &mut Record, frame: &mut [u8]) -> Resu
         return Ok(false);
     }
     record.start_here();
-    let rest = &mut frame[HEAD + record.filled..settings.frame_length()];
+    let rest = &mut frame[HEAD + record.filled..settings.zone_end()];
     lay_idle_packet(settings.fill, rest);
     finish(settings, record, frame);
     Ok(true)
@@ -88,7 +88,7 @@ pub fn flush(settings: &Settings, record: &mut Record, frame: &mut [u8]) -> Resu
 pub fn idle(settings: &Settings, record: &mut Record, frame: &mut [u8]) -> Result<(), Refusal> {
     check(settings, record, frame)?;
     require(record.taken == 0 && record.filled == 0, Refusal::Moment)?;
-    frame[HEAD..settings.frame_length()].fill(settings.fill);
+    frame[HEAD..settings.zone_end()].fill(settings.fill);
     record.first = IDLE_ZONE;
     finish(settings, record, frame);
     Ok(())
@@ -120,9 +120,13 @@ fn lay_idle_packet(fill: u8, rest: &mut [u8]) {
     }
 }
 
-/// Writes the header of a full zone and turns to the next.
+/// Writes the header of a full zone, and behind it the trailer if there is one, and turns to the
+/// next.
 fn finish(settings: &Settings, record: &mut Record, frame: &mut [u8]) {
     frame::write(settings, record.count, record.first, frame);
+    if settings.trailer {
+        trailer::write(&mut frame[..settings.frame_length()]);
+    }
     record.count = frame::next(record.count);
     record.filled = 0;
     record.first = NO_START;

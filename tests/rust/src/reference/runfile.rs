@@ -73,6 +73,7 @@ fn setup(body: &[u8]) -> Option<Settings> {
             zone: usize::from(u16::from_be_bytes([z1, z0])),
             limit: u32::from_be_bytes([0, m2, m1, m0]) as usize,
             fill: 0,
+            trailer: false,
         },
         _ => return None,
     };
