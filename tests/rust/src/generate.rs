@@ -410,7 +410,7 @@ pub fn spoil_trailer(random: &mut Random, frame: &mut Vec<u8>) {
         return;
     }
     let end = frame.len() - TRAILER;
-    match random.within(1, 14) {
+    match random.within(1, 16) {
         // Damage, in the header too, which is then refused for the trailer first.
         1 | 2 => flip(random, frame, end, end + TRAILER - 1),
         3 => flip(random, frame, 0, end - 1),
@@ -422,9 +422,9 @@ pub fn spoil_trailer(random: &mut Random, frame: &mut Vec<u8>) {
             frame.extend([0; TRAILER]);
             trailer::write(frame);
         }
-        8 => {
+        8..=10 => {
             let any = random.any() as u16;
-            frame[end..].copy_from_slice(&random.pick(&[0, u16::MAX, any, any]).to_be_bytes());
+            frame[end..].copy_from_slice(&random.pick(&[0, u16::MAX, any]).to_be_bytes());
         }
         _ => {
             let (_, wrong) = random.pick(&WRONG_REMAINDERS);
