@@ -11,7 +11,8 @@
 //!                                         best round; RUN is a run file of as many frames
 //! ```
 //!
-//! The input is made first, and all sides are lent the same buffers.
+//! The input is made first, and all sides are lent the same buffers. A work whose name ends in
+//! `-trailer` is the one of the name before that, on frames with trailers.
 
 use std::env;
 use std::error::Error;
@@ -35,7 +36,18 @@ use itzahuemo_reference::reference::{judge, multiplexer, relay};
 const SEED: u64 = 7_321;
 
 const CHANNEL: Settings =
-    Settings { spacecraft: 66, channel: 3, zone: 1_000, limit: 1_024, fill: 0x55 };
+    Settings { spacecraft: 66, channel: 3, zone: 1_000, limit: 1_024, fill: 0x55, trailer: false };
+
+const WITH_TRAILER: Settings = Settings { trailer: true, ..CHANNEL };
+
+/// The channel of a work.
+fn channel_of(work: &str) -> Settings {
+    if work.ends_with("-trailer") {
+        WITH_TRAILER
+    } else {
+        CHANNEL
+    }
+}
 
 fn main() -> ExitCode {
     let arguments: Vec<String> = env::args().skip(1).collect();
@@ -53,10 +65,13 @@ fn done(arguments: &[&str]) -> Result<(), Box<dyn Error>> {
     match *arguments {
         ["run", frames] => write_run(frames.parse()?),
         ["read"] => read_run(),
-        ["compare", frames] => compare(&Input::new(frames.parse()?)),
+        ["compare", frames] => {
+            compare(&Input::new(CHANNEL, frames.parse()?))?;
+            compare(&Input::new(WITH_TRAILER, frames.parse()?))
+        }
         ["work", work, side, frames, rounds] => {
             let side = side_of(work, side)?;
-            let input = Input::new(frames.parse()?);
+            let input = Input::new(channel_of(work), frames.parse()?);
             let mut output = vec![0; input.frames.len()];
             for _ in 0..rounds.parse()? {
                 side(&input, &mut output);
@@ -64,7 +79,10 @@ fn done(arguments: &[&str]) -> Result<(), Box<dyn Error>> {
             Ok(())
         }
         ["times", frames, rounds, run, program] => {
-            times(&Input::new(frames.parse()?), rounds.parse()?, run, program)
+            let inputs = [CHANNEL, WITH_TRAILER];
+            let frames = frames.parse()?;
+            let inputs = inputs.map(|settings| Input::new(settings, frames));
+            times(&inputs, rounds.parse()?, run, program)
         }
         _ => Err("no such use; its source says which there are".into()),
     }
@@ -80,12 +98,12 @@ struct Input {
 }
 
 impl Input {
-    fn new(frames: usize) -> Input {
+    fn new(settings: Settings, frames: usize) -> Input {
         let mut random = Random::new(SEED);
-        let octets = vec![0; frames * CHANNEL.frame_length()];
-        let mut input = Input { settings: CHANNEL, packets: Vec::new(), frames: octets };
+        let octets = vec![0; frames * settings.frame_length()];
+        let mut input = Input { settings, packets: Vec::new(), frames: octets };
         let mut record = multiplexer::Record::START;
-        for frame in input.frames.chunks_exact_mut(CHANNEL.frame_length()) {
+        for frame in input.frames.chunks_exact_mut(settings.frame_length()) {
             let mut full = false;
             while !full {
                 if record.taken == 0 {
@@ -93,7 +111,7 @@ impl Input {
                     input.packets.push(generate::packet_of(&mut random, total));
                 }
                 let packet = input.packets.last().expect("a packet is in work");
-                let put = multiplexer::put(&CHANNEL, &mut record, packet, frame);
+                let put = multiplexer::put(&settings, &mut record, packet, frame);
                 full = put.expect("a well-formed packet at its moment").full;
             }
         }
@@ -112,7 +130,7 @@ type Outcome = [u64; 4];
 type Side = fn(&Input, &mut [u8]) -> Outcome;
 
 /// Every work with its sides, the library's first.
-const SIDES: [(&str, &str, Side); 9] = [
+const SIDES: [(&str, &str, Side); 14] = [
     ("extractor", "library", extractor_by_library),
     ("extractor", "reference", extractor_by_reference),
     ("extractor", "plain", extractor_by_plain),
@@ -122,6 +140,11 @@ const SIDES: [(&str, &str, Side); 9] = [
     ("judge", "reference", judge_by_reference),
     ("relay", "library", relay_by_library),
     ("relay", "reference", relay_by_reference),
+    ("extractor-trailer", "library", extractor_by_library),
+    ("extractor-trailer", "reference", extractor_by_reference),
+    ("extractor-trailer", "plain", extractor_by_plain),
+    ("multiplexer-trailer", "library", multiplexer_by_library),
+    ("multiplexer-trailer", "reference", multiplexer_by_reference),
 ];
 
 fn side_of(work: &str, side: &str) -> Result<Side, String> {
@@ -347,14 +370,14 @@ fn relay_by_reference(input: &Input, _: &mut [u8]) -> Outcome {
 }
 
 /// Every event of the extractors, every record of the judges, every frame of the
-/// multiplexers, and what comes of each work.
+/// multiplexers, and what comes of each work on this channel.
 fn compare(input: &Input) -> Result<(), Box<dyn Error>> {
     let mut extractors: [Box<dyn Hearing>; 3] = [
-        Box::new(ByCalls::new(&Library, CHANNEL)),
-        Box::new(ByCalls::new(&Reference, CHANNEL)),
-        Box::new(plain::Extractor::new(CHANNEL).expect("settings in range")),
+        Box::new(ByCalls::new(&Library, input.settings)),
+        Box::new(ByCalls::new(&Reference, input.settings)),
+        Box::new(plain::Extractor::new(input.settings).expect("settings in range")),
     ];
-    let settings = generate::settings_numbers(&CHANNEL);
+    let settings = generate::settings_numbers(&input.settings);
     let mut judges = [([0; calls::JUDGE], [0; CHANNEL.limit]); 2];
     for (place, frame) in input.frames().enumerate() {
         let [library, reference, plain] = &mut extractors;
@@ -372,12 +395,15 @@ fn compare(input: &Input) -> Result<(), Box<dyn Error>> {
     }
     let mut expected = [0; 4];
     for (work, name, side) in SIDES {
+        if channel_of(work) != input.settings {
+            continue;
+        }
         let mut output = vec![0; input.frames.len()];
         let outcome = side(input, &mut output);
         if name == "library" {
             expected = outcome;
         }
-        let written = work != "multiplexer" || output == input.frames;
+        let written = !work.starts_with("multiplexer") || output == input.frames;
         if outcome != expected || !written {
             return Err(format!("{work}: {name} and the library differ").into());
         }
@@ -388,7 +414,7 @@ fn compare(input: &Input) -> Result<(), Box<dyn Error>> {
 fn write_run(frames: usize) -> Result<(), Box<dyn Error>> {
     let mut out = io::BufWriter::new(io::stdout().lock());
     out.write_all(&setup_record(&CHANNEL))?;
-    for frame in Input::new(frames).frames() {
+    for frame in Input::new(CHANNEL, frames).frames() {
         out.write_all(&[runfile::FRAME])?;
         out.write_all(frame)?;
     }
@@ -402,20 +428,29 @@ fn read_run() -> Result<(), Box<dyn Error>> {
     Ok(io::stdout().write_all(aosread(&run).as_bytes())?)
 }
 
-/// The best round of each side. In a round every side has its turn.
-fn times(input: &Input, rounds: usize, run: &str, program: &str) -> Result<(), Box<dyn Error>> {
+/// The best round of each side. In a round every side has its turn. The inputs are one for each
+/// channel.
+fn times(
+    inputs: &[Input; 2],
+    rounds: usize,
+    run: &str,
+    program: &str,
+) -> Result<(), Box<dyn Error>> {
     let own = env::current_exe()?;
     let programs = [
         ("program", "library", vec![program.as_ref()]),
         ("program", "reference", vec![own.as_os_str(), "read".as_ref()]),
     ];
-    let mut output = vec![0; input.frames.len()];
+    let [without, with] = inputs;
+    let mut output = vec![0; with.frames.len()];
     let mut best = [Duration::MAX; SIDES.len() + 2];
     for _ in 0..rounds {
         let (by_call, by_program) = best.split_at_mut(SIDES.len());
-        for ((_, _, side), best) in SIDES.iter().zip(by_call) {
+        for ((work, _, side), best) in SIDES.iter().zip(by_call) {
+            let input = if channel_of(work).trailer { with } else { without };
+            let output = &mut output[..input.frames.len()];
             let start = Instant::now();
-            side(input, &mut output);
+            side(input, output);
             *best = start.elapsed().min(*best);
         }
         for ((_, _, words), best) in programs.iter().zip(by_program) {
@@ -428,7 +463,7 @@ fn times(input: &Input, rounds: usize, run: &str, program: &str) -> Result<(), B
     }
     let names = SIDES.iter().map(|side| (side.0, side.1));
     let names = names.chain(programs.iter().map(|program| (program.0, program.1)));
-    let frames = input.frames().count() as u128;
+    let frames = without.frames().count() as u128;
     for ((work, side), best) in names.zip(best) {
         println!("{work} {side} {}", best.as_nanos() / frames);
     }
