@@ -657,7 +657,7 @@ pub fn judge_record(random: &mut Random, settings: &Settings, store: usize) -> [
     let any = random.any();
     let held = some_held(random, settings, store);
     let zone = settings.zone as u64;
-    let filling = (held + zone - 1) / zone;
+    let filling = held.wrapping_add(zone - 1) / zone;
     let most = 1 << 24;
     let tally = number(
         random,
