@@ -89,18 +89,28 @@ enum itz_refusal {
     ITZ_REFUSED_RECORD = 10,  /* the record, or the octets held in the store, are not ones that
                                  the calls can have left there */
     ITZ_REFUSED_LAST = 11,    /* a frame beyond the judge's last */
-    ITZ_REFUSED_TABLE = 12    /* the entries make no relay table: they are more than 32, or one has
+    ITZ_REFUSED_TABLE = 12,   /* the entries make no relay table: they are more than 32, or one has
                                  an APID above 2046, or two are the same */
+    ITZ_REFUSED_TRAILER = 13  /* the frame's trailer is not that of the octets before it */
 };
+
+/*
+ * The trailer. A setting says whether the frames of a channel end with one: two
+ * octets behind the zone, the error control field of CCSDS 132.0-B. They are the
+ * 16-bit remainder of all octets before them, by the generator
+ * X^16 + X^12 + X^5 + 1 and with the register preset to ones, high octet first.
+ */
 
 /* Settings of a channel that carries packets. */
 enum {
     ITZ_SETTINGS_SPACECRAFT,  /* 0 to 255 */
     ITZ_SETTINGS_CHANNEL,     /* 0 to 62 */
-    ITZ_SETTINGS_ZONE,        /* octets of a packet zone, 1 to 2046; a frame has zone + 8 */
+    ITZ_SETTINGS_ZONE,        /* octets of a packet zone, 1 to 2046; a frame has zone + 8, and
+                                 zone + 10 with a trailer */
     ITZ_SETTINGS_LIMIT,       /* greatest total length of a packet, from the greater of 7 and
                                  `zone` to 65542 */
     ITZ_SETTINGS_FILL,        /* the octet that fills idle space, 0 to 255 */
+    ITZ_SETTINGS_TRAILER,     /* 1 where the frames end with a trailer, 0 where they do not */
     ITZ_SETTINGS_NUMBERS
 };
 
@@ -108,8 +118,10 @@ enum {
 enum {
     ITZ_BIT_SETTINGS_SPACECRAFT,  /* 0 to 255 */
     ITZ_BIT_SETTINGS_CHANNEL,     /* 0 to 62 */
-    ITZ_BIT_SETTINGS_WIDTH,       /* octets of a bitstream zone, 1 to 2047; a frame has width + 8 */
+    ITZ_BIT_SETTINGS_WIDTH,       /* octets of a bitstream zone, 1 to 2047; a frame has width + 8,
+                                     and width + 10 with a trailer */
     ITZ_BIT_SETTINGS_FILL,        /* the octet whose bits fill the rest of a zone, 0 to 255 */
+    ITZ_BIT_SETTINGS_TRAILER,     /* 1 where the frames end with a trailer, 0 where they do not */
     ITZ_BIT_SETTINGS_NUMBERS
 };
 
@@ -261,9 +273,10 @@ ITZ_CALL uint64_t itz_write_space(const uint64_t *header, size_t header_len,
 /*
  * The multiplexer's record. itz_mux_begin lays the first one into an array.
  *
- * `frame` needs zone + 8 octets. Lend the same frame until its zone is full,
- * and the same packet until it is taken. The eight octets in front of the zone
- * are written when the zone is full.
+ * `frame` needs zone + 8 octets, and zone + 10 with a trailer. Lend the same
+ * frame until its zone is full, and the same packet until it is taken. The eight
+ * octets in front of the zone, and the trailer behind it, are written when the
+ * zone is full.
  */
 enum {
     ITZ_MUX_COUNT,   /* of the frame in work, below 2^24 */
@@ -347,8 +360,8 @@ enum {
 /*
  * Enters a frame. The store is only read.
  *
- * Order of refusals: 1, 2, 10, 9, 3, 4, 5, 6, 7. 9 is a frame entered before the
- * last is spent.
+ * Order of refusals: 1, 2, 10, 9, 3, 13, 4, 5, 6, 7. 9 is a frame entered before
+ * the last is spent.
  */
 enum {
     ITZ_ENTERED_WHAT,     /* ITZ_ENTERED */
@@ -380,7 +393,7 @@ ITZ_CALL uint64_t itz_extractor_enter(const uint64_t *settings, size_t settings_
 
 /*
  * Takes the next thing out of the entered frame. A packet in the store lies at
- * its front, and only until the next step.
+ * its front, and only until the next step. The trailer is not looked at again.
  *
  * Order of refusals: 1, 2, 10, 9, 3. 9 is a step with no frame entered.
  */
@@ -444,7 +457,7 @@ enum {
 
 /*
  * Takes the next frame of a recorded run. A frame that an extractor would
- * refuse with 3 to 7 is a fault of the run and not a refusal.
+ * refuse with 3 to 7 or 13 is a fault of the run and not a refusal.
  *
  * Order of refusals: 1, 2, 10, 11.
  */
@@ -488,7 +501,8 @@ enum {
 /*
  * Writes a frame with the first n bits of `bits`, the first of them in the top
  * of its first octet; n may be 0 and is at most 8 * width. `frame` needs
- * width + 8 octets, `bits` the octets that hold n bits.
+ * width + 8 octets, and width + 10 with a trailer; `bits` needs the octets that
+ * hold n bits.
  *
  * Order of refusals: 1, 2, 10.
  */
@@ -509,7 +523,7 @@ enum {
 /*
  * Reads a frame of bits.
  *
- * Order of refusals: 1, 10, 3, 4, 5, 6, 7.
+ * Order of refusals: 1, 10, 3, 13, 4, 5, 6, 7.
  */
 enum {
     ITZ_BITS_COUNT,   /* the frame's count */

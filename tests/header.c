@@ -15,6 +15,7 @@
 #define LIMIT 1024
 #define WIDTH 2
 #define BIT_FRAME (WIDTH + 8)
+#define TRAILER 2
 
 static unsigned checks;
 
@@ -49,10 +50,12 @@ static void set(void)
     settings[ITZ_SETTINGS_ZONE] = ZONE;
     settings[ITZ_SETTINGS_LIMIT] = LIMIT;
     settings[ITZ_SETTINGS_FILL] = 0x55;
+    settings[ITZ_SETTINGS_TRAILER] = 0;
     bit_settings[ITZ_BIT_SETTINGS_SPACECRAFT] = 66;
     bit_settings[ITZ_BIT_SETTINGS_CHANNEL] = 3;
     bit_settings[ITZ_BIT_SETTINGS_WIDTH] = WIDTH;
     bit_settings[ITZ_BIT_SETTINGS_FILL] = 0x55;
+    bit_settings[ITZ_BIT_SETTINGS_TRAILER] = 0;
 }
 
 static void packets(void)
@@ -332,6 +335,89 @@ static void bits(void)
     IS(read[ITZ_BITS_REPLAY], 0);
 }
 
+static uint64_t enter_longer(const uint8_t *longer)
+{
+    return itz_extractor_enter(ARRAY(settings), ARRAY(extractor), SIZED(store), longer, FRAME + TRAILER, ARRAY(entered));
+}
+
+/* The sample's first frame with its trailer: written, refused, judged and entered. */
+static void trailers(void)
+{
+    static const uint8_t encapsulation[] = {0xE9, 0x05, 0x11, 0x22, 0x33};
+    static const uint64_t start[ITZ_EXTRACTOR_NUMBERS] = ITZ_EXTRACTOR_START;
+    uint64_t mux[ITZ_MUX_NUMBERS], put[ITZ_PUT_NUMBERS];
+    uint64_t record[ITZ_JUDGE_NUMBERS] = ITZ_JUDGE_START, faulty[ITZ_JUDGE_NUMBERS] = ITZ_JUDGE_START;
+    uint8_t longer[FRAME + TRAILER];
+
+    sample(frame, 0, 0, 0x50);
+    memset(longer, 0xA5, sizeof longer);
+    IS(itz_mux_begin(ARRAY(mux)), ITZ_ACCEPTED);
+    settings[ITZ_SETTINGS_TRAILER] = 2;
+    IS(itz_mux_put(ARRAY(settings), ARRAY(mux), frame + 8, 8, SIZED(longer), ARRAY(put)), ITZ_REFUSED_SETTING);
+    settings[ITZ_SETTINGS_TRAILER] = 1;
+    IS(itz_mux_put(ARRAY(settings), ARRAY(mux), frame + 8, 8, SHORT(longer), ARRAY(put)), ITZ_REFUSED_ROOM);
+    IS(itz_mux_put(ARRAY(settings), ARRAY(mux), frame + 8, 8, SIZED(longer), ARRAY(put)), ITZ_ACCEPTED);
+    IS(put[ITZ_PUT_FULL], 0);
+    IS(longer[FRAME], 0xA5);
+    IS(longer[FRAME + 1], 0xA5);
+    IS(itz_mux_put(ARRAY(settings), ARRAY(mux), SIZED(encapsulation), SIZED(longer), ARRAY(put)), ITZ_ACCEPTED);
+    IS(put[ITZ_PUT_FULL], 1);
+    HOLDS(memcmp(longer, frame, FRAME) == 0);
+    IS(longer[FRAME], 0x2D);
+    IS(longer[FRAME + 1], 0x75);
+
+    memcpy(extractor, start, sizeof start);
+    IS(enter(), ITZ_REFUSED_LENGTH);
+    longer[0] ^= 0x80;
+    IS(enter_longer(longer), ITZ_REFUSED_TRAILER);
+    longer[0] ^= 0x80;
+    longer[FRAME + 1] ^= 1;
+    IS(enter_longer(longer), ITZ_REFUSED_TRAILER);
+    IS(entered[ITZ_ENTERED_WHAT], 0);
+    IS(extractor[ITZ_EXTRACTOR_KIND], 0);
+    IS(itz_judge_frame(ARRAY(settings), ARRAY(faulty), SIZED(store), SIZED(longer)), ITZ_ACCEPTED);
+    IS(faulty[ITZ_JUDGE_KIND], 2);
+
+    longer[FRAME + 1] ^= 1;
+    IS(itz_judge_frame(ARRAY(settings), ARRAY(record), SIZED(store), SIZED(longer)), ITZ_ACCEPTED);
+    IS(record[ITZ_JUDGE_KIND], 1);
+    IS(enter_longer(longer), ITZ_ACCEPTED);
+    IS(entered[ITZ_ENTERED_WHAT], ITZ_ENTERED);
+    longer[FRAME + 1] ^= 1;
+    IS(itz_extractor_step(ARRAY(settings), ARRAY(extractor), SIZED(store), SIZED(longer), ARRAY(step)), ITZ_ACCEPTED);
+    IS(step[ITZ_STEP_WHAT], ITZ_STEP_PACKET);
+    set();
+}
+
+static void bit_trailers(void)
+{
+    static const uint8_t octets[] = {0x70};
+    uint64_t writer[ITZ_BIT_WRITER_NUMBERS] = ITZ_BIT_WRITER_START;
+    uint64_t reader[ITZ_BIT_READER_NUMBERS] = ITZ_BIT_READER_START;
+    uint64_t read[ITZ_BITS_NUMBERS];
+    uint8_t longer[BIT_FRAME + TRAILER];
+
+    bit_settings[ITZ_BIT_SETTINGS_TRAILER] = 2;
+    IS(itz_bits_write(ARRAY(bit_settings), ARRAY(writer), SIZED(octets), 4, SIZED(longer)), ITZ_REFUSED_SETTING);
+    bit_settings[ITZ_BIT_SETTINGS_TRAILER] = 1;
+    IS(itz_bits_write(ARRAY(bit_settings), ARRAY(writer), SIZED(octets), 4, SHORT(longer)), ITZ_REFUSED_ROOM);
+    IS(itz_bits_write(ARRAY(bit_settings), ARRAY(writer), SIZED(octets), 4, SIZED(longer)), ITZ_ACCEPTED);
+    IS(longer[BIT_FRAME], 0x31);
+    IS(longer[BIT_FRAME + 1], 0xEF);
+    IS(itz_bits_read(ARRAY(bit_settings), ARRAY(reader), longer, BIT_FRAME, ARRAY(read)), ITZ_REFUSED_LENGTH);
+    longer[0] ^= 0x80;
+    IS(itz_bits_read(ARRAY(bit_settings), ARRAY(reader), SIZED(longer), ARRAY(read)), ITZ_REFUSED_TRAILER);
+    longer[0] ^= 0x80;
+    longer[BIT_FRAME] ^= 1;
+    IS(itz_bits_read(ARRAY(bit_settings), ARRAY(reader), SIZED(longer), ARRAY(read)), ITZ_REFUSED_TRAILER);
+    IS(reader[ITZ_BIT_READER_KIND], 0);
+    longer[BIT_FRAME] ^= 1;
+    IS(itz_bits_read(ARRAY(bit_settings), ARRAY(reader), SIZED(longer), ARRAY(read)), ITZ_ACCEPTED);
+    IS(read[ITZ_BITS_VALID], 4);
+    IS(read[ITZ_BITS_START], 8);
+    set();
+}
+
 static void relays(void)
 {
     static const uint64_t paths[] = {5, 7, 6, 8, 5, 9};
@@ -386,6 +472,8 @@ int main(void)
     extracting();
     judging();
     bits();
+    trailers();
+    bit_trailers();
     relays();
     printf("%u answers, 0 differ\n", checks);
     return EXIT_SUCCESS;

@@ -4,7 +4,8 @@
  * A space packet and an encapsulation packet go through the multiplexer, and a
  * flush closes the last frame. The frames then go to an extractor, which hands
  * the packets back, and to a judge, which says whether the run is sound. A relay
- * table says where the space packet goes from there.
+ * table says where the space packet goes from there. The same run is then sent
+ * in frames that end with a trailer, and a bit of it is changed.
  *
  * `make` beside this file builds it, and the library where it is not there yet.
  */
@@ -17,12 +18,14 @@
 #define ZONE 10
 #define LIMIT 1024
 #define FRAME (ZONE + 8)
+#define TRAILER 2
 #define FRAMES 4
 
-static const uint64_t settings[ITZ_SETTINGS_NUMBERS] = {66, 3, ZONE, LIMIT, 0x55};
+static uint64_t settings[ITZ_SETTINGS_NUMBERS] = {66, 3, ZONE, LIMIT, 0x55, 0};
 
-static uint8_t frames[FRAMES][FRAME];
-static size_t written; /* frames that are full; the next one is in work */
+static uint8_t frames[FRAMES][FRAME + TRAILER];
+static size_t frame_len = FRAME; /* octets of a frame, by the settings */
+static size_t written;           /* frames that are full; the next one is in work */
 
 /* Ends the program when a call is refused. */
 static void must(const char *call, uint64_t refusal)
@@ -39,7 +42,7 @@ static void must(const char *call, uint64_t refusal)
 static void frame_is_full(void)
 {
     printf("written");
-    for (size_t i = 0; i < FRAME; i++)
+    for (size_t i = 0; i < frame_len; i++)
         printf(" %02X", frames[written][i]);
     printf("\n");
     written++;
@@ -51,7 +54,7 @@ static void send_packet(uint64_t *mux, const uint8_t *packet, size_t size)
     uint64_t put[ITZ_PUT_NUMBERS];
     do {
         must("put", itz_mux_put(settings, ITZ_SETTINGS_NUMBERS, mux, ITZ_MUX_NUMBERS, packet, size,
-                                frames[written], FRAME, put, ITZ_PUT_NUMBERS));
+                                frames[written], frame_len, put, ITZ_PUT_NUMBERS));
         if (put[ITZ_PUT_FULL])
             frame_is_full();
     } while (!put[ITZ_PUT_TAKEN]);
@@ -61,7 +64,7 @@ static void flush(uint64_t *mux)
 {
     uint64_t flushed[ITZ_FLUSH_NUMBERS];
     must("flush", itz_mux_flush(settings, ITZ_SETTINGS_NUMBERS, mux, ITZ_MUX_NUMBERS,
-                                frames[written], FRAME, flushed, ITZ_FLUSH_NUMBERS));
+                                frames[written], frame_len, flushed, ITZ_FLUSH_NUMBERS));
     if (flushed[ITZ_FLUSH_WHAT] == ITZ_FLUSH_FRAME)
         frame_is_full();
 }
@@ -80,19 +83,23 @@ static void show_packet(const uint8_t *packet, size_t size)
                header[ITZ_HEADER_KEY], header[ITZ_HEADER_TOTAL]);
 }
 
-/* Enters a frame and takes everything out of it. */
+/* Enters a frame and takes everything out of it, or says why it is refused. */
 static void receive(uint64_t *extractor, uint8_t *store, const uint8_t *frame)
 {
     uint64_t entered[ITZ_ENTERED_NUMBERS];
     uint64_t step[ITZ_STEP_NUMBERS];
-    must("enter", itz_extractor_enter(settings, ITZ_SETTINGS_NUMBERS, extractor, ITZ_EXTRACTOR_NUMBERS,
-                                      store, LIMIT, frame, FRAME, entered, ITZ_ENTERED_NUMBERS));
+    uint64_t refusal = itz_extractor_enter(settings, ITZ_SETTINGS_NUMBERS, extractor, ITZ_EXTRACTOR_NUMBERS,
+                                           store, LIMIT, frame, frame_len, entered, ITZ_ENTERED_NUMBERS);
+    if (refusal != ITZ_ACCEPTED) {
+        printf("refused %" PRIu64 "\n", refusal);
+        return;
+    }
     printf("frame %" PRIu64 " lost %" PRIu64 " dropped %" PRIu64 " reason %" PRIu64 "\n",
            entered[ITZ_ENTERED_COUNT], entered[ITZ_ENTERED_LOST], entered[ITZ_ENTERED_DROPPED],
            entered[ITZ_ENTERED_REASON]);
     for (;;) {
         must("step", itz_extractor_step(settings, ITZ_SETTINGS_NUMBERS, extractor, ITZ_EXTRACTOR_NUMBERS,
-                                        store, LIMIT, frame, FRAME, step, ITZ_STEP_NUMBERS));
+                                        store, LIMIT, frame, frame_len, step, ITZ_STEP_NUMBERS));
         if (step[ITZ_STEP_WHAT] == ITZ_STEP_SPENT)
             return;
         if (step[ITZ_STEP_WHAT] == ITZ_STEP_DAMAGED)
@@ -111,7 +118,7 @@ static void judge(void)
     uint64_t verdict[ITZ_VERDICT_NUMBERS];
     for (size_t i = 0; i < written; i++)
         must("judge", itz_judge_frame(settings, ITZ_SETTINGS_NUMBERS, record, ITZ_JUDGE_NUMBERS,
-                                      store, LIMIT, frames[i], FRAME));
+                                      store, LIMIT, frames[i], frame_len));
     must("close", itz_judge_close(settings, ITZ_SETTINGS_NUMBERS, record, ITZ_JUDGE_NUMBERS,
                                   store, LIMIT, verdict, ITZ_VERDICT_NUMBERS));
     if (verdict[ITZ_VERDICT_WHAT] == ITZ_PASS)
@@ -135,24 +142,47 @@ static void relay(const uint64_t *table, const uint8_t *packet, size_t size)
     printf("\n");
 }
 
-int main(void)
-{
-    static const uint8_t space[] = {0x00, 0x05, 0xC0, 0x00, 0x00, 0x01, 0xAA, 0xBB};
-    static const uint8_t encapsulation[] = {0xE9, 0x05, 0x11, 0x22, 0x33};
-    static const uint64_t paths[] = {5, 7, 5, 2}; /* APID 5 goes to 7 and to 2 */
-    static uint8_t store[LIMIT];
-    uint64_t mux[ITZ_MUX_NUMBERS];
-    uint64_t extractor[ITZ_EXTRACTOR_NUMBERS] = ITZ_EXTRACTOR_START;
-    uint64_t table[ITZ_RELAY_NUMBERS] = ITZ_RELAY_START;
+/* ---- The run ------------------------------------------------------------ */
 
+static const uint8_t space[] = {0x00, 0x05, 0xC0, 0x00, 0x00, 0x01, 0xAA, 0xBB};
+static const uint8_t encapsulation[] = {0xE9, 0x05, 0x11, 0x22, 0x33};
+
+/* Sends both packets, in frames that begin at the count 0. */
+static void send_run(void)
+{
+    uint64_t mux[ITZ_MUX_NUMBERS];
+    written = 0;
     must("begin", itz_mux_begin(mux, ITZ_MUX_NUMBERS));
     send_packet(mux, space, sizeof space);
     send_packet(mux, encapsulation, sizeof encapsulation);
     flush(mux);
+}
+
+/* Receives all frames that were written, and judges them. */
+static void receive_run(void)
+{
+    static uint8_t store[LIMIT];
+    uint64_t extractor[ITZ_EXTRACTOR_NUMBERS] = ITZ_EXTRACTOR_START;
     for (size_t i = 0; i < written; i++)
         receive(extractor, store, frames[i]);
     judge();
+}
+
+int main(void)
+{
+    static const uint64_t paths[] = {5, 7, 5, 2}; /* APID 5 goes to 7 and to 2 */
+    uint64_t table[ITZ_RELAY_NUMBERS] = ITZ_RELAY_START;
+
+    send_run();
+    receive_run();
     must("load", itz_relay_load(paths, sizeof paths / sizeof paths[0], table, ITZ_RELAY_NUMBERS));
     relay(table, space, sizeof space);
+
+    settings[ITZ_SETTINGS_TRAILER] = 1;
+    frame_len = FRAME + TRAILER;
+    send_run();
+    receive_run();
+    frames[1][10] ^= 0x01; /* the second frame has one bit changed on its way */
+    receive_run();
     return EXIT_SUCCESS;
 }
