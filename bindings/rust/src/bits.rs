@@ -1,5 +1,5 @@
 use crate::ffi;
-use crate::settings::{FILL, HEAD};
+use crate::settings::{frame_length, FILL};
 use crate::Refusal;
 
 /// A channel that carries bits.
@@ -9,13 +9,14 @@ pub struct BitSettings {
     channel: u8,
     width: usize,
     fill: u8,
+    trailer: bool,
 }
 
 impl BitSettings {
     /// A spacecraft, one of its channels (0 to 62) and the octets of a frame's bitstream zone (1 to 2,047). Refused is a number out
     /// of range.
     pub fn new(spacecraft: u8, channel: u8, width: usize) -> Result<BitSettings, Refusal> {
-        let settings = BitSettings { spacecraft, channel, width, fill: FILL };
+        let settings = BitSettings { spacecraft, channel, width, fill: FILL, trailer: false };
         // The settings are looked at before the frame, and no frame is empty.
         let said = ffi::bits_read(&settings.numbers(), &mut [0; 2], &[], &mut [0; 6]);
         match Refusal::check(said) {
@@ -29,6 +30,11 @@ impl BitSettings {
         BitSettings { fill, ..self }
     }
 
+    /// The same channel with frames that end with a trailer, as by [`Settings::with_trailer`](crate::Settings::with_trailer).
+    pub fn with_trailer(self, trailer: bool) -> BitSettings {
+        BitSettings { trailer, ..self }
+    }
+
     /// The octets of a bitstream zone.
     pub fn width(&self) -> usize {
         self.width
@@ -36,11 +42,17 @@ impl BitSettings {
 
     /// The octets of a frame.
     pub fn frame_length(&self) -> usize {
-        HEAD + self.width
+        frame_length(self.width, self.trailer)
     }
 
-    fn numbers(&self) -> [u64; 4] {
-        [self.spacecraft.into(), self.channel.into(), self.width as u64, self.fill.into()]
+    fn numbers(&self) -> [u64; 5] {
+        [
+            self.spacecraft.into(),
+            self.channel.into(),
+            self.width as u64,
+            self.fill.into(),
+            self.trailer.into(),
+        ]
     }
 }
 
@@ -108,7 +120,7 @@ impl BitReader {
         BitReader { settings, record: [0; 2] }
     }
 
-    /// Reads a frame. Refused is one that is not of this channel (`Length` to `Pointer`).
+    /// Reads a frame. Refused is one that is not of this channel (`Length` to `Pointer`) or whose trailer is wrong (`Trailer`).
     pub fn read<'a>(&mut self, frame: &'a [u8]) -> Result<Bits<'a>, Refusal> {
         let mut answer = [0; 6];
         Refusal::check(ffi::bits_read(

@@ -84,8 +84,8 @@ impl Extractor {
         Extractor { settings, record: [0; 4], store: vec![0; settings.limit()] }
     }
 
-    /// Enters a frame. Refused is one that is not of this channel (`Length` to `Pointer`); the extractor goes on as if it had not
-    /// been there. The frame is gone through to its end even where its events are not asked for.
+    /// Enters a frame. Refused is one that is not of this channel (`Length` to `Pointer`) or whose trailer is wrong (`Trailer`); the
+    /// extractor goes on as if it had not been there. The frame is gone through to its end even where its events are not asked for.
     pub fn feed<'f>(&mut self, frame: &'f [u8]) -> Result<Events<'_, 'f>, Refusal> {
         let mut answer = [0; 6];
         Refusal::check(ffi::extractor_enter(

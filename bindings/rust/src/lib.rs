@@ -7,7 +7,8 @@
 #![doc = include_str!("../examples/sample.rs")]
 //! ```
 //!
-//! A table of [`relay`] says where the packets go from there.
+//! A table of [`relay`] says where the packets go from there. Frames that end with an error control field are those of
+//! [`Settings::with_trailer`] and [`BitSettings::with_trailer`].
 #![warn(missing_docs)]
 
 mod bits;

@@ -28,10 +28,12 @@ pub enum Refusal {
     Last = 11,
     /// The entries make no relay table: they are more than 32, or one has an APID above 2,046, or two are the same.
     Table = 12,
+    /// The frame's trailer is not that of the octets before it.
+    Trailer = 13,
 }
 
 impl Refusal {
-    const ALL: [Refusal; 12] = [
+    const ALL: [Refusal; 13] = [
         Refusal::Setting,
         Refusal::Room,
         Refusal::Length,
@@ -44,9 +46,10 @@ impl Refusal {
         Refusal::Record,
         Refusal::Last,
         Refusal::Table,
+        Refusal::Trailer,
     ];
 
-    /// Its number, 1 to 12, as `aosread` prints it.
+    /// Its number, 1 to 13, as `aosread` prints it.
     pub fn number(self) -> u64 {
         self as u64
     }
@@ -78,6 +81,7 @@ impl fmt::Display for Refusal {
             Refusal::Record => "the record or the held octets cannot have been left by a call",
             Refusal::Last => "a frame beyond the judge's last",
             Refusal::Table => "more than 32 relay entries, an APID above 2,046, or two the same",
+            Refusal::Trailer => "the frame's trailer is not that of the octets before it",
         };
         write!(f, "refused {}: {why}", self.number())
     }

@@ -9,12 +9,33 @@ const SPACE: [u8; 8] = [0x00, 0x05, 0xC0, 0x00, 0x00, 0x01, 0xAA, 0xBB];
 const ENCAPSULATION: [u8; 5] = [0xE9, 0x05, 0x11, 0x22, 0x33];
 const LIMIT: usize = 1_024;
 
+/// The frames of both packets, with their trailers.
+const TRAILED: [[u8; 20]; 2] = [
+    [
+        0x50, 0x83, 0x00, 0x00, 0x00, 0x00, 0x00, 0x00, 0x00, 0x05, 0xC0, 0x00, 0x00, 0x01, 0xAA,
+        0xBB, 0xE9, 0x05, 0x2D, 0x75,
+    ],
+    [
+        0x50, 0x83, 0x00, 0x00, 0x01, 0x00, 0x00, 0x03, 0x11, 0x22, 0x33, 0xE1, 0x07, 0x55, 0x55,
+        0x55, 0x55, 0x55, 0x43, 0x63,
+    ],
+];
+
 fn settings() -> Settings {
     Settings::new(66, 3, 10, LIMIT).unwrap()
 }
 
 fn frames() -> Vec<Vec<u8>> {
     multiplex(settings(), [&SPACE[..], &ENCAPSULATION[..]]).unwrap()
+}
+
+/// A frame with one of its bits changed, each in its turn.
+fn with_a_bit_changed(frame: &[u8]) -> impl Iterator<Item = Vec<u8>> + '_ {
+    (0..8 * frame.len()).map(move |at| {
+        let mut changed = frame.to_vec();
+        changed[at / 8] ^= 0x80 >> (at % 8);
+        changed
+    })
 }
 
 fn entered(event: Option<Event>) -> Entered {
@@ -29,6 +50,10 @@ fn settings_are_those_of_the_rules() {
     assert_eq!(settings().frame_length(), 18);
     assert_eq!(settings().fill(), 0x55);
     assert_eq!(settings().with_fill(7).fill(), 7);
+    assert!(!settings().trailer());
+    assert!(settings().with_trailer(true).trailer());
+    assert_eq!(settings().with_trailer(true).frame_length(), 20);
+    assert_eq!(settings().with_trailer(true).with_trailer(false), settings());
     assert!(Settings::new(255, 62, 2_046, 65_542).is_ok());
     for (channel, zone, limit) in
         [(63, 10, 1_024), (3, 0, 1_024), (3, 2_047, 4_096), (3, 10, 9), (3, 1, 6), (3, 10, 65_543)]
@@ -220,6 +245,92 @@ fn bits_go_round() {
     assert_eq!(reader.read(&none).unwrap().iter().count(), 0);
 }
 
+#[test]
+fn trailers_are_written() {
+    let settings = settings().with_trailer(true);
+    let mut multiplexer = Multiplexer::new(settings);
+    assert!(multiplexer.put(&SPACE).unwrap().is_empty());
+    assert_eq!(multiplexer.put(&ENCAPSULATION).unwrap(), TRAILED[..1]);
+    assert_eq!(multiplexer.flush().unwrap().unwrap(), TRAILED[1]);
+    assert_eq!(multiplexer.flush(), Ok(None));
+    let idle = Multiplexer::new(settings).idle().unwrap();
+    assert_eq!(idle[..8], [0x50, 0x83, 0, 0, 0, 0, 0x07, 0xFE]);
+    assert_eq!(idle[8..18], [0x55; 10]);
+    assert_eq!(idle[18..], [0x29, 0xBB]);
+    for zone in [1, 2_046] {
+        let settings = Settings::new(255, 62, zone, 65_542).unwrap().with_trailer(true);
+        let frame = Multiplexer::new(settings).idle().unwrap();
+        assert_eq!(frame.len(), zone + 10);
+        assert_eq!(judge(settings, [frame]), Ok(Verdict::Pass));
+    }
+}
+
+#[test]
+fn frames_with_trailers_are_read() {
+    let mut extractor = Extractor::new(settings());
+    let mut trailed = Extractor::new(settings().with_trailer(true));
+    for (frame, longer) in frames().iter().zip(&TRAILED) {
+        assert!(trailed.feed(longer).unwrap().eq(extractor.feed(frame).unwrap()));
+        assert_eq!(trailed.feed(frame).err(), Some(Refusal::Length));
+        assert_eq!(extractor.feed(longer).err(), Some(Refusal::Length));
+    }
+    let other = Settings::new(66, 4, 10, LIMIT).unwrap().with_trailer(true);
+    let mut frame = Multiplexer::new(other).idle().unwrap();
+    assert_eq!(trailed.feed(&frame).err(), Some(Refusal::Channel));
+    frame[18] ^= 1;
+    assert_eq!(trailed.feed(&frame).err(), Some(Refusal::Trailer));
+    assert_eq!(trailed.feed(&frame[1..]).err(), Some(Refusal::Length));
+}
+
+#[test]
+fn a_changed_bit_is_refused_by_the_trailer() {
+    let settings = settings().with_trailer(true);
+    let mut extractor = Extractor::new(settings);
+    extractor.feed(&TRAILED[0]).unwrap();
+    for changed in with_a_bit_changed(&TRAILED[1]) {
+        assert_eq!(extractor.feed(&changed).err(), Some(Refusal::Trailer));
+    }
+    let mut events = extractor.feed(&TRAILED[1]).unwrap();
+    let told = Entered { count: 1, replay: false, lost: 0, dropped: 0, reason: Reason::None };
+    assert_eq!(entered(events.next()), told);
+    assert!(
+        matches!(events.next(), Some(Event::Packet(packet)) if packet.octets[..] == ENCAPSULATION)
+    );
+    assert!(matches!(events.next(), Some(Event::Packet(packet)) if packet.header.idle));
+    assert_eq!(events.next(), None);
+}
+
+#[test]
+fn runs_with_trailers_are_judged() {
+    let settings = settings().with_trailer(true);
+    assert_eq!(judge(settings, TRAILED), Ok(Verdict::Pass));
+    assert_eq!(judge(settings, frames()), Ok(Verdict::Fault(0)));
+    assert_eq!(judge(settings, [&TRAILED[0][..], &TRAILED[1][..18]]), Ok(Verdict::Fault(1)));
+    for changed in with_a_bit_changed(&TRAILED[1]) {
+        assert_eq!(judge(settings, [&TRAILED[0][..], &changed]), Ok(Verdict::Fault(1)));
+    }
+}
+
+#[test]
+fn bits_go_round_with_trailers() {
+    let settings = BitSettings::new(66, 3, 1).unwrap().with_trailer(true);
+    assert_eq!(settings.frame_length(), 11);
+    let mut writer = BitWriter::new(settings);
+    let frame = writer.write(&[0x70], 4).unwrap();
+    assert_eq!(frame, [0x50, 0x83, 0, 0, 0, 0, 0x00, 0x03, 0x75, 0x5A, 0xC0]);
+    let none = writer.write(&[], 0).unwrap();
+    assert_eq!(none, [0x50, 0x83, 0, 0, 1, 0, 0x3F, 0xFE, 0x55, 0x58, 0xFA]);
+    let mut reader = BitReader::new(settings);
+    let bits = reader.read(&frame).unwrap();
+    assert_eq!(bits, Bits { count: 0, replay: false, lost: false, number: 4, octets: &[0x75] });
+    for changed in with_a_bit_changed(&none) {
+        assert_eq!(reader.read(&changed), Err(Refusal::Trailer));
+    }
+    assert_eq!(reader.read(&none[..9]), Err(Refusal::Length));
+    let bits = reader.read(&none).unwrap();
+    assert_eq!(bits, Bits { count: 1, replay: false, lost: false, number: 0, octets: &[] });
+}
+
 fn entries(pairs: &[(u16, u8)]) -> Vec<Entry> {
     pairs.iter().map(|&(apid, destination)| Entry { apid, destination }).collect()
 }
@@ -263,6 +374,7 @@ fn packets_are_routed() {
 fn refusals_say_why() {
     assert_eq!(Refusal::Pointer.number(), 7);
     assert_eq!(Refusal::Record.number(), 10);
+    assert_eq!(Refusal::Trailer.number(), 13);
     let said = Refusal::Pointer.to_string();
     assert_eq!(said, "refused 7: the frame's pointer is one that cannot be");
     let error: Box<dyn std::error::Error + Send + Sync> = Refusal::Table.into();
