@@ -10,7 +10,8 @@ A face on the proved library: what has to be remembered between calls is kept he
             print(event)
     print(judge(settings, frames))
 
-A `RelayTable` says where the packets go from there.
+A `RelayTable` says where the packets go from there. With `trailer=True` the settings are those of a channel whose frames end with an
+error control field.
 
 An extractor, a judge, a multiplexer, a reader or a writer of bits or a relay table is used by one thread at a time; different ones may
 be used at the same time.

@@ -26,6 +26,7 @@ class Refusal(enum.IntEnum):
     RECORD = 10
     LAST = 11
     TABLE = 12
+    TRAILER = 13
 
 
 _WHY = {
@@ -41,6 +42,7 @@ _WHY = {
     Refusal.RECORD: "the record or the held octets cannot have been left by a call",
     Refusal.LAST: "a frame beyond the judge's last",
     Refusal.TABLE: "more than 32 relay entries, an APID above 2,046, or two the same",
+    Refusal.TRAILER: "the frame's trailer is not that of the octets before it",
 }
 
 

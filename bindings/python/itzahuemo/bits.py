@@ -6,18 +6,19 @@ from dataclasses import dataclass
 from typing import Any, Iterator
 
 from ._library import Octets, Refusal, Refused, answer, call, number_of, numbers, octets, room
-from .channel import HEAD
+from .channel import frame_length
 
 
 @dataclass(frozen=True)
 class BitSettings:
-    """A spacecraft (0 to 255), one of its channels (0 to 62), the octets of a frame's bitstream zone (1 to 2,047) and the octet whose
-    bits fill the rest of a zone. A number out of range raises `Refused`."""
+    """A spacecraft (0 to 255), one of its channels (0 to 62), the octets of a frame's bitstream zone (1 to 2,047), the octet whose
+    bits fill the rest of a zone, and whether frames end with a trailer, as in `Settings`. A number out of range raises `Refused`."""
 
     spacecraft: int
     channel: int
     width: int
     fill: int = 0x55
+    trailer: bool = False
 
     def __post_init__(self) -> None:
         # The settings are looked at before the frame, and no frame is empty.
@@ -27,11 +28,11 @@ class BitSettings:
     @property
     def frame_length(self) -> int:
         """The octets of a frame."""
-        return HEAD + self.width
+        return frame_length(self.width, self.trailer)
 
     def numbers(self) -> Any:
         """As the calls take them."""
-        return numbers([self.spacecraft, self.channel, self.width, self.fill])
+        return numbers([self.spacecraft, self.channel, self.width, self.fill, self.trailer])
 
 
 class BitWriter:
@@ -72,7 +73,7 @@ class BitReader:
         self._record = answer(2)
 
     def read(self, frame: Octets) -> Bits:
-        """The bits of a frame. One that is not of this channel raises `Refused`."""
+        """The bits of a frame. One that is not of this channel, or whose trailer is wrong, raises `Refused`."""
         lent = octets(frame)
         said = answer(6)
         call("bits_read", self.settings.numbers(), self._record, lent, said)

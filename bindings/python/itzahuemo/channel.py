@@ -7,21 +7,29 @@ from typing import Any
 
 from ._library import Refusal, Refused, answer, number_of, numbers, octets
 
-# The octets in front of a frame's zone.
-HEAD = 8
+# The octets in front of a frame's zone, and those of a trailer behind it.
+_HEAD = 8
+_TRAILER = 2
+
+
+def frame_length(zone: int, trailer: bool) -> int:
+    """The octets of a frame with so long a zone."""
+    return _HEAD + zone + (_TRAILER if trailer else 0)
 
 
 @dataclass(frozen=True)
 class Settings:
     """A spacecraft (0 to 255), one of its channels (0 to 62), the octets of a frame's packet zone (1 to 2,046), the greatest total
-    length of a packet (from the greater of 7 and `zone` to 65,542) and the octet that fills idle space. A number out of range raises
-    `Refused`."""
+    length of a packet (from the greater of 7 and `zone` to 65,542), the octet that fills idle space, and whether frames end with a
+    trailer, the error control field of CCSDS 132.0-B: two octets more, the 16-bit remainder of all octets before them. A number out of
+    range raises `Refused`."""
 
     spacecraft: int
     channel: int
     zone: int
     limit: int
     fill: int = 0x55
+    trailer: bool = False
 
     def __post_init__(self) -> None:
         # The settings are looked at before the store, and an empty store holds no packet.
@@ -31,8 +39,8 @@ class Settings:
     @property
     def frame_length(self) -> int:
         """The octets of a frame."""
-        return HEAD + self.zone
+        return frame_length(self.zone, self.trailer)
 
     def numbers(self) -> Any:
         """As the calls take them."""
-        return numbers([self.spacecraft, self.channel, self.zone, self.limit, self.fill])
+        return numbers([self.spacecraft, self.channel, self.zone, self.limit, self.fill, self.trailer])

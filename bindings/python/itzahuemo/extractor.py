@@ -61,8 +61,8 @@ class Extractor:
         self._store = room(settings.limit)
 
     def feed(self, frame: Octets) -> list[Event]:
-        """All that a frame brings, first what it says as it is entered. A frame that is not of this channel raises `Refused`, and the
-        extractor goes on as if it had not been there."""
+        """All that a frame brings, first what it says as it is entered. A frame that is not of this channel, or whose trailer is wrong,
+        raises `Refused`, and the extractor goes on as if it had not been there."""
         lent = octets(frame)
         events: list[Event] = [self._enter(lent)]
         while True:

@@ -3,7 +3,7 @@
 from __future__ import annotations
 
 import unittest
-from typing import Any, Callable
+from typing import Any, Callable, Iterator
 
 from itzahuemo import (
     BitReader,
@@ -38,6 +38,21 @@ LIMIT = 1024
 SETTINGS = Settings(66, 3, 10, LIMIT)
 FRAMES = multiplex(SETTINGS, [SPACE, ENCAPSULATION])
 
+# The same channel with trailers, and its frames of both packets.
+TRAILED = Settings(66, 3, 10, LIMIT, trailer=True)
+TRAILED_FRAMES = [
+    bytes.fromhex("5083000000000000 0005C0000001AABB E905 2D75"),
+    bytes.fromhex("5083000001000003 112233 E1075555555555 4363"),
+]
+
+
+def with_a_bit_changed(frame: bytes) -> Iterator[bytes]:
+    """A frame with one of its bits changed, each in its turn."""
+    for at in range(8 * len(frame)):
+        changed = bytearray(frame)
+        changed[at // 8] ^= 0x80 >> at % 8
+        yield bytes(changed)
+
 
 class Calls(unittest.TestCase):
     """Answers and refusals."""
@@ -60,12 +75,16 @@ class Calls(unittest.TestCase):
             (66, 3, 1, 6),
             (66, 3, 10, 65543),
             (66, 3, 10, 1024, 256),
+            (66, 3, 10, 1024, 0x55, 2),
             (-1, 3, 10, 1024),
             (2**64 + 66, 3, 10, 1024),
         ]:
             self.refused(Refusal.SETTING, Settings, *numbers)
         self.assertEqual(BitSettings(66, 3, 2047).frame_length, 2055)
         self.refused(Refusal.SETTING, BitSettings, 66, 3, 2048)
+        self.refused(Refusal.SETTING, BitSettings, 66, 3, 1, 0x55, 2)
+        self.assertEqual(TRAILED.frame_length, 20)
+        self.assertEqual(BitSettings(66, 3, 2047, trailer=True).frame_length, 2057)
 
     def test_headers(self) -> None:
         self.assertEqual(read_header(LIMIT, SPACE), Header(5, None, False, 6, 8))
@@ -186,6 +205,59 @@ class Calls(unittest.TestCase):
         self.assertEqual(none[6:8], b"\x3f\xfe")
         self.assertEqual(list(reader.read(none)), [])
 
+    def test_trailers_written(self) -> None:
+        self.assertEqual(multiplex(TRAILED, [SPACE, ENCAPSULATION]), TRAILED_FRAMES)
+        idle = Multiplexer(TRAILED).idle()
+        self.assertEqual(idle, bytes.fromhex("50830000000007FE") + bytes([0x55] * 10) + b"\x29\xbb")
+        for zone in [1, 2046]:
+            settings = Settings(255, 62, zone, 65542, trailer=True)
+            frame = Multiplexer(settings).idle()
+            self.assertEqual(len(frame), zone + 10)
+            self.assertTrue(judge(settings, [frame]))
+
+    def test_trailers_read(self) -> None:
+        extractor, trailed = Extractor(SETTINGS), Extractor(TRAILED)
+        for frame, longer in zip(FRAMES, TRAILED_FRAMES):
+            self.assertEqual(trailed.feed(longer), extractor.feed(frame))
+            self.refused(Refusal.LENGTH, trailed.feed, frame)
+            self.refused(Refusal.LENGTH, extractor.feed, longer)
+        other = bytearray(Multiplexer(Settings(66, 4, 10, LIMIT, trailer=True)).idle())
+        self.refused(Refusal.CHANNEL, trailed.feed, other)
+        other[18] ^= 1
+        self.refused(Refusal.TRAILER, trailed.feed, other)
+        self.refused(Refusal.LENGTH, trailed.feed, other[1:])
+
+    def test_a_bit_changed(self) -> None:
+        extractor = Extractor(TRAILED)
+        extractor.feed(TRAILED_FRAMES[0])
+        for changed in with_a_bit_changed(TRAILED_FRAMES[1]):
+            self.refused(Refusal.TRAILER, extractor.feed, changed)
+        entered, encapsulation, _idle = extractor.feed(TRAILED_FRAMES[1])
+        self.assertEqual(entered, Entered(1, False, 0, 0, Reason.NONE))
+        self.assertEqual(encapsulation, Packet(Header(None, 2, False, 2, 5), ENCAPSULATION))
+
+    def test_trailers_judged(self) -> None:
+        first, second = TRAILED_FRAMES
+        self.assertTrue(judge(TRAILED, TRAILED_FRAMES))
+        self.assertEqual(judge(TRAILED, FRAMES).fault, 0)
+        self.assertEqual(judge(TRAILED, [first, second[:18]]).fault, 1)
+        for changed in with_a_bit_changed(second):
+            self.assertEqual(judge(TRAILED, [first, changed]).fault, 1)
+
+    def test_bits_with_trailers(self) -> None:
+        settings = BitSettings(66, 3, 1, trailer=True)
+        writer = BitWriter(settings)
+        frame = writer.write(b"\x70", 4)
+        self.assertEqual(frame, bytes.fromhex("5083000000000003 75 5AC0"))
+        none = writer.write(b"", 0)
+        self.assertEqual(none, bytes.fromhex("5083000001003FFE 55 58FA"))
+        reader = BitReader(settings)
+        self.assertEqual(reader.read(frame), Bits(0, False, False, 4, b"\x75"))
+        for changed in with_a_bit_changed(none):
+            self.refused(Refusal.TRAILER, reader.read, changed)
+        self.refused(Refusal.LENGTH, reader.read, none[:9])
+        self.assertEqual(reader.read(none), Bits(1, False, False, 0, b""))
+
     def test_relay_tables(self) -> None:
         many = [(apid, 1) for apid in range(33)]
         table = RelayTable(many[:32])
@@ -232,7 +304,7 @@ class Calls(unittest.TestCase):
 
     def test_refusals(self) -> None:
         self.assertEqual(str(Refused(Refusal.POINTER)), "refused 7: the frame's pointer is one that cannot be")
-        names = "SETTING ROOM LENGTH VERSION CHANNEL SPARE POINTER PACKET MOMENT RECORD LAST TABLE"
-        self.assertEqual([Refusal(number).name for number in range(1, 13)], names.split())
+        names = "SETTING ROOM LENGTH VERSION CHANNEL SPARE POINTER PACKET MOMENT RECORD LAST TABLE TRAILER"
+        self.assertEqual([Refusal(number).name for number in range(1, 14)], names.split())
         for refusal in Refusal:
             self.assertIn(f"refused {int(refusal)}: ", str(Refused(refusal)))
