@@ -13,6 +13,9 @@ use Rattle.relay.specs.Route.{destinations, path, route-rows, routing, routes}
 use Rattle.relay.specs.Route as relay
 use Rattle.packets.specs.Unwrap.{extension-of, reserved-of, unwrap-rows, unwrapping, unwraps, unit-part}
 use Rattle.space.specs.Space.{space-fields, space-word, space-in-range, space-read-rows, space-reading, space-reads, space-rows, space-writing}
+use Rattle.trailer.specs.Division.{all-bits, moved, divided, remainder}
+use Rattle.trailer.specs.Division as division
+use Rattle.trailer.specs.Trailer.{trailer, right, trailed, extra, sent, wrong, ended}
 use Rattle.frames.specs.Link.{link-in-range, primary, zone-head, header-rows, written-rows, head-word, headers, count-width, next-count, missing}
 use Rattle.frames.specs.Frame.{in-range, frame-length, zone-of, unused, frame-rows, heading-rows, heading-of, heading, head, head-rows}
 use Rattle.frames.specs.BitFrame.{bits-in-range, bit-frame-length, bit-zone-of, bit-unused, bit-frame-rows, bit-heading-rows, bit-heading, bit-head, bit-head-rows}
@@ -48,8 +51,12 @@ unfoldable pub relays : Unit {0}
 unfolding packets same tables.stands twice above unfit load-rows table-of loading clear is-table destinations path route-rows relay.written routing routes
 relays = tt
 
+unfoldable pub trailers : Unit {0}
+unfolding packets all-bits moved division.bits division.step divided remainder trailer right trailed extra sent wrong ended
+trailers = tt
+
 unfoldable pub frames : Unit {0}
-unfolding packets link-in-range primary zone-head header-rows written-rows head-word headers count-width next-count missing in-range frame-length zone-of unused frame-rows heading-rows heading-of heading head head-rows bits-in-range bit-frame-length bit-zone-of bit-unused bit-frame-rows bit-heading-rows bit-heading bit-head bit-head-rows
+unfolding trailers link-in-range primary zone-head header-rows written-rows head-word headers count-width next-count missing in-range frame-length zone-of unused frame-rows heading-rows heading-of heading head head-rows bits-in-range bit-frame-length bit-zone-of bit-unused bit-frame-rows bit-heading-rows bit-heading bit-head bit-head-rows
 frames = tt
 
 unfoldable pub multiplexing : Unit {0}

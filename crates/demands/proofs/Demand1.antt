@@ -8,6 +8,7 @@ use Rattle.demands.proofs.calls.Packets.{of-packets}
 use Rattle.demands.proofs.calls.Wrapping.{of-wrapping}
 use Rattle.demands.proofs.calls.Relay.{of-relay}
 use Rattle.demands.proofs.calls.Space.{of-space}
+use Rattle.demands.proofs.calls.Trailer.{of-trailer}
 use Rattle.demands.proofs.calls.Frames.{of-frames}
 use Rattle.demands.proofs.calls.Multiplexer.{of-multiplexer}
 use Rattle.demands.proofs.calls.Extractor.{of-extractor}
@@ -25,6 +26,7 @@ demand-1 = record {
   wrapping = of-wrapping;
   relay = of-relay;
   space = of-space;
+  trailer = of-trailer;
   frames = of-frames;
   multiplexer = of-multiplexer;
   extractor = of-extractor;

@@ -3,6 +3,7 @@
 use mathlib.Core.Path.{refl}
 use Rattle.packets.specs.Header.{seen}
 use Rattle.space.specs.Space.{space-writes}
+use Rattle.trailer.proofs.Vectors.{vectors}
 use Rattle.demands.specs.Numbers.{Numbers}
 use Rattle.demands.specs.Numbers.Ranges.{Edges}
 use Rattle.demands.specs.Numbers.Octets as octets
@@ -17,6 +18,7 @@ use Rattle.demands.specs.Numbers.Stepping as stepping
 use Rattle.demands.specs.Numbers.Judging as judging
 use Rattle.demands.specs.Numbers.Bits as bits
 use Rattle.demands.specs.Numbers.RunFiles as runs
+use Rattle.demands.specs.Numbers.Trailers as trailers
 use Rattle.demands.specs.Numbers.Answers.{Cases, Together}
 use Rattle.demands.proofs.Computing as computing
 use Rattle.demands.proofs.NumbersInC.{in-c}
@@ -299,6 +301,7 @@ run-files : runs.Records
 unfolding computing.run-files
 run-files = record {
   setups = refl;
+  no-trailer = refl;
   bodies = refl;
   first = refl;
   frame = refl;
@@ -382,6 +385,49 @@ routed = record {
   cases = refl;
 }
 
+trailer-octets : trailers.Octets
+unfolding computing.trailers
+trailer-octets = record {
+  vectors = vectors;
+  longer = refl;
+  right = refl;
+  wrong-ones = refl;
+  none = refl;
+  written = refl;
+  far = refl;
+  unwritten = refl;
+}
+
+trailers-refused : trailers.Refusals
+unfolding computing.frames
+trailers-refused = record {
+  lengths = refl;
+  other-lengths = refl;
+  other-bit-lengths = refl;
+  before = refl;
+  behind = refl;
+  bits-before = refl;
+  bits-behind = refl;
+}
+
+trailed : trailers.Outcomes
+unfolding computing.multiplexing computing.judging computing.bitstreams
+trailed = record {
+  begun-zone = refl;
+  full-zone = refl;
+  flushed = refl;
+  idle-zone = refl;
+  room = refl;
+  entered = refl;
+  stepped = refl;
+  judged = refl;
+  bits-written = refl;
+  bits-room = refl;
+  bits-read = refl;
+  bits-refused = refl;
+  leading = refl;
+}
+
 pub numbers : Numbers
 numbers = record {
   ranges = ranges;
@@ -391,6 +437,7 @@ numbers = record {
     frame-read = frame-read;
     frame-written = frame-written;
     wheel = wheel;
+    trailers = trailer-octets;
     space-packets = space-packets;
     encapsulation-packets = encapsulation-packets;
     parts = parts;
@@ -406,6 +453,7 @@ numbers = record {
     wrap = wrap;
     write-idle = write-idle;
     bitstream = bitstream;
+    trailers = trailers-refused;
   };
   outcomes = record {
     multiplexed = multiplexed;
@@ -419,6 +467,7 @@ numbers = record {
     bits = bits-carried;
     loaded = loaded;
     routed = routed;
+    trailed = trailed;
   };
   run-files = run-files;
   answers = answers;

@@ -115,5 +115,18 @@ refused = record {
   first-read = refl;
 }
 
+trailers : arrays.Trailers
+unfolding computing.arrays
+trailers = record {
+  begun = refl;
+  flushed = refl;
+  no-room = refl;
+  entered = refl;
+  stepped = refl;
+  judged = refl;
+  written = refl;
+  read = refl;
+}
+
 pub in-c : arrays.InC
-in-c = record { short = short; outside = outside; refused = refused; stated = stated; packets = packets; multiplexer = multiplexer; extractor = extractor; judge = judge; bits = bits; relay = relay }
+in-c = record { short = short; outside = outside; refused = refused; stated = stated; packets = packets; multiplexer = multiplexer; extractor = extractor; judge = judge; bits = bits; relay = relay; trailers = trailers }

@@ -2,10 +2,11 @@
 -- Assumes nothing.
 use mathlib.Core.Path.{_≡_, refl, sym, ap, _∙_, subst}
 use mathlib.Core.List.{List, _∷_, map}
-use mathlib.Core.Bool.{true}
+use mathlib.Core.Bool.{Bool, true, false}
 use Prim.Native.Nat.{ℕ, _≤_, min}
 use native.Mathlib.Omega.{arith}
 use lib.ListN.{length}
+use lib.Dec.{leb, eqb}
 use borrow.Author.Tests.{le-leb}
 use Rattle.octets.specs.Basics.{All}
 use Rattle.frames.specs.Frame.{in-range}
@@ -16,7 +17,8 @@ use Rattle.extractor.specs.Extract.{events-in}
 use Rattle.extractor.specs.Calls.{Listened}
 use Rattle.extractor.proofs.Theorems.{says-the-rules}
 use Rattle.judge.specs.Calls.{CloseSaid, RunCalls}
-use Rattle.exports.specs.Channel.{zone-for, link-of, settings-of}
+use Rattle.arrays.specs.Arrays.{bit}
+use Rattle.exports.specs.Channel.{settings-numbers, zone-for, link-of, settings-of}
 use Rattle.carries.specs.Careful.{Sending, run}
 use Rattle.carries.specs.Demand2List.{Delivers}
 use Rattle.demands.specs.Demand3.{HandsOver}
@@ -37,8 +39,17 @@ pub mod Judges
 uncut : (n most : ℕ) → n ≤ most → min n most ≡ n
 uncut n most h = omega arith
 
+-- a flag as a number is 0 or 1, and says which
+flag-fits : (b : Bool) → leb (bit b) 1 ≡ true
+flag-fits true = refl
+flag-fits false = refl
+
+flag-back : (b : Bool) → eqb (bit b) 1 ≡ b
+flag-back true = refl
+flag-back false = refl
+
 states : (s : Settings) (rest : List ℕ) → in-range s ≡ true → s .fill ≤ 255
-    → settings-of (s .link .spacecraft ∷ s .link .channel ∷ s .zone ∷ s .limit ∷ s .fill ∷ rest) ≡ s
+    → settings-of (s .link .spacecraft ∷ s .link .channel ∷ s .zone ∷ s .limit ∷ s .fill ∷ bit (s .link .trailed) ∷ rest) ≡ s
 unfolding settings-of link-of zone-for
 states s rest ok octet =
     let range = settled s ok in
@@ -47,9 +58,11 @@ states s rest ok octet =
       uncut (s .link .channel) 4294967295 (omega (arith, range)),
       uncut (s .fill) 255 octet,
       le-leb (s .fill) 255 octet,
+      flag-fits (s .link .trailed),
+      flag-back (s .link .trailed),
     ) refl
 
-module _ (settings : List ℕ) (stated : 5 ≤ length settings) where
+module _ (settings : List ℕ) (stated : settings-numbers ≤ length settings) where
   abbrev s : Settings
   s = settings-of settings
 

@@ -8,6 +8,7 @@ use Rattle.demands.specs.calls.Packets.{OfPackets}
 use Rattle.demands.specs.calls.Wrapping.{OfWrapping}
 use Rattle.demands.specs.calls.Relay.{OfRelay}
 use Rattle.demands.specs.calls.Space.{OfSpace}
+use Rattle.demands.specs.calls.Trailer.{OfTrailer}
 use Rattle.demands.specs.calls.Frames.{OfFrames}
 use Rattle.demands.specs.calls.Multiplexer.{OfMultiplexer}
 use Rattle.demands.specs.calls.Extractor.{OfExtractor}
@@ -24,6 +25,7 @@ pub record Demand1 : Type 0 where
   pub wrapping : OfWrapping
   pub relay : OfRelay
   pub space : OfSpace
+  pub trailer : OfTrailer
   pub frames : OfFrames
   pub multiplexer : OfMultiplexer
   pub extractor : OfExtractor

@@ -10,7 +10,9 @@ use Rattle.wrapping.specs.Wrap.{wrapped-total, wrap-rows}
 use Rattle.wrapping.specs.Wrap as wrapping
 use Rattle.space.specs.Space.{space-read-rows, space-rows, space-reading, space-writing}
 use Rattle.space.specs.declared.SpaceHeader.{SpaceHeader}
+use Rattle.trailer.specs.Printed.{AsPrinted}
 use Rattle.frames.specs.Statements.{HeadersRead}
+use Rattle.frames.specs.Worth.{Worth}
 use Rattle.frames.specs.BitFrame.{bit-frame-length}
 use Rattle.frames.specs.declared.bits.BitSettings.{BitSettings}
 use Rattle.bitstream.specs.Bitstream.{written, reader-reachable, reading}
@@ -44,6 +46,11 @@ pub record Packets : Type 0 where
       → space-writing (space-reading os .header) os ≡ record { refusal = 0; output = os }
   pub space-same : SameHeader
 
+-- the trailer is the remainder that source 004 prints, and a frame with wrong bits of these kinds is refused by it
+pub record Trailers : Type 0 where
+  pub as-printed : AsPrinted
+  pub worth : Worth
+
 -- bits that are written are read back, and a frame that is read has its bits where the promise says
 pub record Bits : Type 0 where
   pub written-read : (s : BitSettings) (w : Writer) (bits : List ℕ) (n : ℕ) (buffer : List ℕ) → written s w bits n buffer .said .refusal ≡ 0
@@ -55,6 +62,7 @@ pub record Bits : Type 0 where
 pub record Demand2 : Type 0 where
   pub fields : Fields
   pub headers-read : HeadersRead
+  pub trailers : Trailers
   pub packets-read : Packets
   pub bits-read : Bits
   pub orders : OrdersCarried

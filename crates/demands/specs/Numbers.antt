@@ -14,6 +14,7 @@ use Rattle.demands.specs.Numbers.Judging as judging
 use Rattle.demands.specs.Numbers.Bits as bits
 use Rattle.demands.specs.Numbers.RunFiles as runs
 use Rattle.demands.specs.Numbers.Answers.{Cases, Together}
+use Rattle.demands.specs.Numbers.Trailers as trailers
 use Rattle.demands.specs.Numbers.InC as arrays
 pub mod Samples
 pub mod Octets
@@ -29,6 +30,7 @@ pub mod Entering
 pub mod Stepping
 pub mod Judging
 pub mod Bits
+pub mod Trailers
 pub mod RunFiles
 pub mod Answers
 pub mod InC
@@ -40,6 +42,7 @@ pub record Layouts : Type 0 where
   pub frame-read : frames.Read
   pub frame-written : frames.Written
   pub wheel : frames.Wheel
+  pub trailers : trailers.Octets
   pub space-packets : SpacePackets
   pub encapsulation-packets : EncapsulationPackets
   pub parts : Parts
@@ -56,6 +59,7 @@ pub record Refusals : Type 0 where
   pub wrap : wrapping.Refusals
   pub write-idle : IdlePackets
   pub bitstream : bits.Refusals
+  pub trailers : trailers.Refusals
 
 -- what each call does and leaves
 pub record Outcomes : Type 0 where
@@ -70,6 +74,7 @@ pub record Outcomes : Type 0 where
   pub bits : bits.Frames
   pub loaded : relaying.Tables
   pub routed : relaying.Ways
+  pub trailed : trailers.Outcomes
 
 pub record Numbers : Type 0 where
   pub ranges : Edges

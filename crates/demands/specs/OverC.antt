@@ -17,8 +17,9 @@ use Rattle.extractor.specs.Statements.{Fit}
 use Rattle.extractor.specs.declared.Extractor.the-variants.{Fresh}
 use Rattle.judge.specs.Calls.{judge-calls, judge-run}
 use Rattle.judge.specs.declared.Judge.the-variants.{Open}
+use Rattle.arrays.specs.Arrays.{bit}
 use Rattle.exports.specs.Left.{Left}
-use Rattle.exports.specs.Channel.{settings-of}
+use Rattle.exports.specs.Channel.{settings-numbers, settings-of}
 use Rattle.exports.specs.Extract.{step-leaves}
 use Rattle.carries.specs.Carries.{Carries}
 use Rattle.carries.specs.Careful.{run, filler, offered, Formed}
@@ -102,10 +103,10 @@ Demand3InC settings s =
     (array store answer : List ℕ) (fs : List (List ℕ)) → Long array answer 2 → Fit s store → length fs ≤ most-frames
     → JudgesInC settings s array store answer fs
 
--- So it is with every array of five numbers or more, and the settings that it states; and all settings in range can be stated.
+-- So it is with every array that is long enough, and the settings that it states; and all settings in range can be stated.
 pub record OverC : Type 0 where
-  pub runs : (settings : List ℕ) → 5 ≤ length settings → RunsInC settings (settings-of settings)
-  pub demand-2 : (settings : List ℕ) → 5 ≤ length settings → Demand2InC settings (settings-of settings)
-  pub demand-3 : (settings : List ℕ) → 5 ≤ length settings → Demand3InC settings (settings-of settings)
+  pub runs : (settings : List ℕ) → settings-numbers ≤ length settings → RunsInC settings (settings-of settings)
+  pub demand-2 : (settings : List ℕ) → settings-numbers ≤ length settings → Demand2InC settings (settings-of settings)
+  pub demand-3 : (settings : List ℕ) → settings-numbers ≤ length settings → Demand3InC settings (settings-of settings)
   pub stated : (s : Settings) (rest : List ℕ) → in-range s ≡ true → s .fill ≤ 255
-      → settings-of (s .link .spacecraft ∷ s .link .channel ∷ s .zone ∷ s .limit ∷ s .fill ∷ rest) ≡ s
+      → settings-of (s .link .spacecraft ∷ s .link .channel ∷ s .zone ∷ s .limit ∷ s .fill ∷ bit (s .link .trailed) ∷ rest) ≡ s

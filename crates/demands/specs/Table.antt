@@ -7,8 +7,9 @@ use Rattle.packets.specs.Header.{Reading, reading}
 use Rattle.packets.specs.Passes as packets
 use Rattle.wrapping.specs.Passes as wrapping
 use Rattle.frames.specs.Passes as frames
+use Rattle.frames.specs.declared.Settings.{Settings}
 use Rattle.multiplexer.specs.Passes as multiplexer
-use Rattle.extractor.specs.Passes.{sample, first-frame, second-frame, Pass, passes, SamplePasses}
+use Rattle.extractor.specs.Passes.{sample, first-frame, second-frame, Pass, passes, SamplePasses, trailed-sample, trailed-passes, TrailedPasses}
 use Rattle.judge.specs.Judge.{Verdict, pass, fault, verdict}
 use Rattle.bitstream.specs.Passes as bitstream
 use Rattle.demands.specs.Numbers.{Numbers}
@@ -39,18 +40,21 @@ pub record Pass1 : Type 0 where
   pub encap-2-5 : shows (0xE9 ∷ 0x05 ∷ 0x11 ∷ 0x22 ∷ 0x33 ∷ []) ≡ record { version = 7; key = 2; idle = false; length = 5 }
   pub idle-7 : shows (0xE1 ∷ 0x07 ∷ 0x55 ∷ 0x55 ∷ 0x55 ∷ 0x55 ∷ 0x55 ∷ []) ≡ record { version = 7; key = 0; idle = true; length = 7 }
 
--- what the judge says of each of some runs
-abbrev pub verdicts : List Pass → List Verdict
-verdicts [] = []
-verdicts (p ∷ ps) = verdict sample (p .frames) ∷ verdicts ps
+-- what the judge says of each of some runs under these settings
+abbrev pub verdicts : Settings → List Pass → List Verdict
+verdicts s [] = []
+verdicts s (p ∷ ps) = verdict s (p .frames) ∷ verdicts s ps
 
 -- THE TABLE. The extractor's lines and the judge's verdicts are over one list of runs: the run of pass 1; 2 its second frame alone;
 -- 3 count 2; 4 pointer 2; 5 pointer 9, pointer 10, and both alone; 6 pointer 2,047; 7 the wheel with idle zones and with packets.
 pub record Table : Type 0 where
   pub pass-1 : Pass1
   pub passes-1-to-7 : SamplePasses
-  pub judged-1-to-7 : verdicts passes
+  pub judged-1-to-7 : verdicts sample passes
       ≡ pass ∷ fault 0 ∷ fault 1 ∷ fault 1 ∷ fault 1 ∷ fault 1 ∷ fault 0 ∷ fault 0 ∷ fault 1 ∷ fault 2 ∷ fault 0 ∷ []
+  -- the run of pass 1 with trailers, and one after another of what can be wrong with them
+  pub passes-trailed : TrailedPasses
+  pub judged-trailed : verdicts trailed-sample trailed-passes ≡ pass ∷ fault 1 ∷ fault 1 ∷ fault 1 ∷ fault 1 ∷ fault 1 ∷ fault 1 ∷ []
   pub pass-5-pointers : frames.Pass5
   pub pass-8 : packets.Pass8
   pub pass-9-packets : wrapping.Pass9

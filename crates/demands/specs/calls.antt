@@ -5,6 +5,7 @@ pub mod Packets
 pub mod Wrapping
 pub mod Relay
 pub mod Space
+pub mod Trailer
 pub mod Frames
 pub mod Multiplexer
 pub mod Extractor

@@ -16,9 +16,13 @@ use Rattle.arrays.specs.Arrays.{told, kept, bit, octet-of, count-of}
 use Rattle.exports.specs.Left.{Left, left}
 use Rattle.exports.specs.Channel.{link-of, zone-for}
 
--- whether an array is short: of five settings, or of a record's or an answer's numbers
+-- so many numbers state the settings
+abbrev pub bit-settings-numbers : ℕ
+bit-settings-numbers = 5
+
+-- whether an array is short: of settings, or of a record's or an answer's numbers
 unfoldable pub bits-short : ℕ → ℕ → ℕ → ℕ → ℕ → Bool
-bits-short settings numbers size answer room = or (ltb settings 5) (or (ltb numbers size) (ltb answer room))
+bits-short settings numbers size answer room = or (ltb settings bit-settings-numbers) (or (ltb numbers size) (ltb answer room))
 
 -- spacecraft, channel, W, the fill octet and the trailer
 unfoldable pub bit-settings-of : List ℕ → BitSettings

@@ -9,9 +9,13 @@ use Rattle.frames.specs.declared.Link.{Link}
 use Rattle.frames.specs.declared.Settings.{Settings}
 use Rattle.arrays.specs.Arrays.{octet-of, count-of}
 
--- whether an array is short: of six settings, of a record's four numbers, or of an answer's
+-- so many numbers state the settings
+abbrev pub settings-numbers : ℕ
+settings-numbers = 6
+
+-- whether an array is short: of settings, of a record's four numbers, or of an answer's
 unfoldable pub short : ℕ → ℕ → ℕ → ℕ → Bool
-short settings numbers answer room = or (ltb settings 6) (or (ltb numbers 4) (ltb answer room))
+short settings numbers answer room = or (ltb settings settings-numbers) (or (ltb numbers 4) (ltb answer room))
 
 -- the octets of a zone: none, which is out of range, where the fill is no octet or the trailer's number neither 0 nor 1
 unfoldable pub zone-for : ℕ → ℕ → ℕ → ℕ

@@ -1,6 +1,6 @@
 -- Sample passes 2 to 7: what is said of each frame of a run, from a fresh extractor on.
 use Prim.Native.Nat.{ℕ}
-use mathlib.Core.Bool.{false}
+use mathlib.Core.Bool.{true, false}
 use mathlib.Core.Path.{_≡_}
 use mathlib.Core.List.{List, [], _∷_, _++_}
 use lib.ListN.{replicate}
@@ -71,6 +71,10 @@ first-line = entered 0 0 0 0 (packet (0x00 ∷ 0x05 ∷ 0xC0 ∷ 0x00 ∷ 0x00 �
 abbrev pub idle-seven : Event
 idle-seven = idle (0xE1 ∷ 0x07 ∷ 0x55 ∷ 0x55 ∷ 0x55 ∷ 0x55 ∷ 0x55 ∷ [])
 
+-- and the second's, after the first
+abbrev pub second-line : Line
+second-line = entered 1 0 0 0 (packet (0xE9 ∷ 0x05 ∷ 0x11 ∷ 0x22 ∷ 0x33 ∷ []) ∷ idle-seven ∷ [])
+
 -- a pass: the frames of a run, and the lines that are right for them
 pub record Pass : Type 0 where
   pub frames : List (List ℕ)
@@ -80,10 +84,10 @@ pub record Pass : Type 0 where
 abbrev pub pass : List (List ℕ) → List Line → Pass
 pass fs ls = record { frames = fs; lines = ls }
 
--- the lines that the rules give
-abbrev pub given : List Pass → List (List Line)
-given [] = []
-given (p ∷ ps) = lines-of (told sample fresh (p .frames)) ∷ given ps
+-- the lines that the rules give under these settings
+abbrev pub given : Settings → List Pass → List (List Line)
+given s [] = []
+given s (p ∷ ps) = lines-of (told s fresh (p .frames)) ∷ given s ps
 
 -- and those that are right
 abbrev pub right : List Pass → List (List Line)
@@ -95,8 +99,7 @@ right (p ∷ ps) = p .lines ∷ right ps
 -- an idle zone's.
 abbrev pub passes : List Pass
 passes =
-    pass (first-frame ∷ second-frame 1 3 ∷ [])
-    (first-line ∷ entered 1 0 0 0 (packet (0xE9 ∷ 0x05 ∷ 0x11 ∷ 0x22 ∷ 0x33 ∷ []) ∷ idle-seven ∷ []) ∷ [])
+    pass (first-frame ∷ second-frame 1 3 ∷ []) (first-line ∷ second-line ∷ [])
     ∷ pass (second-frame 1 3 ∷ []) (entered 1 0 0 0 (idle-seven ∷ []) ∷ [])
     ∷ pass (first-frame ∷ second-frame 2 3 ∷ []) (first-line ∷ entered 2 1 2 1 (idle-seven ∷ []) ∷ [])
     ∷ pass (first-frame ∷ second-frame 1 2 ∷ []) (first-line ∷ entered 1 0 2 2 (torn ∷ []) ∷ [])
@@ -113,4 +116,32 @@ passes =
 
 -- the table
 abbrev pub SamplePasses : Type 0
-SamplePasses = given passes ≡ right passes
+SamplePasses = given sample passes ≡ right passes
+
+-- ---- the same channel with trailers
+
+abbrev pub trailed-sample : Settings
+trailed-sample = record { link = record { spacecraft = 66; channel = 3; trailed = true }; zone = 10; limit = 1024; fill = 0x55 }
+
+-- the two sample frames with their trailers
+abbrev pub trailed-first : List ℕ
+trailed-first = first-frame ++ (0x2D ∷ 0x75 ∷ [])
+
+abbrev pub trailed-second : List ℕ
+trailed-second = second-frame 1 3 ++ (0x43 ∷ 0x63 ∷ [])
+
+-- The run. Its first frame and then the second refused, once for each: no trailer; the trailer's octets swapped; another count, and another
+-- version, under the trailer that stood there; that version with its own trailer. And what a refused frame leaves: the run goes on behind it.
+abbrev pub trailed-passes : List Pass
+trailed-passes =
+    pass (trailed-first ∷ trailed-second ∷ []) (first-line ∷ second-line ∷ [])
+    ∷ pass (trailed-first ∷ second-frame 1 3 ∷ []) (first-line ∷ refused-by 3 ∷ [])
+    ∷ pass (trailed-first ∷ (second-frame 1 3 ++ (0x63 ∷ 0x43 ∷ [])) ∷ []) (first-line ∷ refused-by 13 ∷ [])
+    ∷ pass (trailed-first ∷ (second-frame 2 3 ++ (0x43 ∷ 0x63 ∷ [])) ∷ []) (first-line ∷ refused-by 13 ∷ [])
+    ∷ pass (trailed-first ∷ (0x90 ∷ 0x83 ∷ 0x00 ∷ 0x00 ∷ 0x01 ∷ 0x00 ∷ 0x00 ∷ 0x03 ∷ (second-zone ++ (0x43 ∷ 0x63 ∷ []))) ∷ []) (first-line ∷ refused-by 13 ∷ [])
+    ∷ pass (trailed-first ∷ (0x90 ∷ 0x83 ∷ 0x00 ∷ 0x00 ∷ 0x01 ∷ 0x00 ∷ 0x00 ∷ 0x03 ∷ (second-zone ++ (0x5F ∷ 0xE3 ∷ []))) ∷ []) (first-line ∷ refused-by 4 ∷ [])
+    ∷ pass (trailed-first ∷ (second-frame 1 3 ++ (0x43 ∷ 0x62 ∷ [])) ∷ trailed-second ∷ []) (first-line ∷ refused-by 13 ∷ second-line ∷ [])
+    ∷ []
+
+abbrev pub TrailedPasses : Type 0
+TrailedPasses = given trailed-sample trailed-passes ≡ right trailed-passes

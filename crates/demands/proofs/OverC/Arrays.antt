@@ -13,9 +13,9 @@ use Rattle.octets.specs.Basics.{over, laid}
 use Rattle.octets.proofs.Tests.{test}
 use Rattle.octets.proofs.Written.{laid-within, length-over}
 use Rattle.arrays.specs.Arrays.{told, kept}
-use Rattle.exports.specs.Channel.{short}
+use Rattle.exports.specs.Channel.{settings-numbers, short}
 
-pub long-enough : (settings numbers answer : List ℕ) (room : ℕ) → 5 ≤ length settings → 4 ≤ length numbers → room ≤ length answer
+pub long-enough : (settings numbers answer : List ℕ) (room : ℕ) → settings-numbers ≤ length settings → 4 ≤ length numbers → room ≤ length answer
     → short (length settings) (length numbers) (length answer) room ≡ false
 unfolding short
 long-enough settings numbers answer room a b c = rw (le-ltb _ _ a, le-ltb _ _ b, le-ltb _ _ c) refl

@@ -22,7 +22,7 @@ use Rattle.judge.specs.declared.Closed.{Closed}
 use Rattle.judge.proofs.Theorems.{keeps-to-the-test}
 use Rattle.arrays.specs.Arrays.{told, kept}
 use Rattle.exports.specs.Left.{Left, left}
-use Rattle.exports.specs.Channel.{settings-of}
+use Rattle.exports.specs.Channel.{settings-numbers, settings-of}
 use Rattle.exports.specs.Judging.{judge-of, judge-numbers, judge-leaves, close-numbers, close-leaves}
 use Rattle.exports.specs.Statements.{JudgeWords}
 use Rattle.exports.proofs.Theorems.{stated-again}
@@ -57,7 +57,7 @@ record Follows (r : JudgingInC) (q : RunCalls) : Type 0 where
   same : as-calls r ≡ q
   long : 4 ≤ length (r .numbers)
 
-module _ (settings : List ℕ) (stated : 5 ≤ length settings) where
+module _ (settings : List ℕ) (stated : settings-numbers ≤ length settings) where
   abbrev s : Settings
   s = settings-of settings
 

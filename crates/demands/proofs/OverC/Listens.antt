@@ -26,7 +26,7 @@ use Rattle.extractor.proofs.Turns.{Packed, framed, stored, Turn, leave, keep, b
 use Rattle.extractor.proofs.Unrefused.{moves}
 use Rattle.arrays.specs.Arrays.{told, kept}
 use Rattle.exports.specs.Left.{Left, left}
-use Rattle.exports.specs.Channel.{settings-of}
+use Rattle.exports.specs.Channel.{settings-numbers, settings-of}
 use Rattle.exports.specs.Extract.{extractor-of, extractor-numbers, enter-numbers, enter-leaves, step-numbers, step-leaves}
 use Rattle.exports.specs.Statements.{ExtractorWords}
 use Rattle.exports.proofs.Theorems.{stated-again}
@@ -128,7 +128,7 @@ record Follows (t : SteppingInC) (q : Finds) : Type 0 where
   same : as-finds t ≡ q
   long : Lent (t .held)
 
-module _ (settings : List ℕ) (stated : 5 ≤ length settings) where
+module _ (settings : List ℕ) (stated : settings-numbers ≤ length settings) where
   abbrev s : Settings
   s = settings-of settings
 

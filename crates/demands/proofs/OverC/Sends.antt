@@ -19,7 +19,7 @@ use Rattle.multiplexer.specs.declared.Mux.{Mux}
 use Rattle.multiplexer.proofs.Putting.{call-reachable}
 use Rattle.arrays.specs.Arrays.{told, kept, bit}
 use Rattle.exports.specs.Left.{left}
-use Rattle.exports.specs.Channel.{settings-of}
+use Rattle.exports.specs.Channel.{settings-numbers, settings-of}
 use Rattle.exports.specs.Mux.{mux-of, mux-numbers, begin-leaves, put-numbers, flush-numbers, no-numbers, mux-leaves}
 use Rattle.exports.specs.Statements.{Word}
 use Rattle.exports.proofs.Theorems.{stated-again}
@@ -98,7 +98,7 @@ record Follows (x : SendingInC) (y : Sending) : Type 0 where
   same : as-sending x ≡ y
   long : Lent x
 
-module _ (settings : List ℕ) (stated : 5 ≤ length settings) (lend : ℕ → List ℕ) where
+module _ (settings : List ℕ) (stated : settings-numbers ≤ length settings) (lend : ℕ → List ℕ) where
   abbrev s : Settings
   s = settings-of settings
 
@@ -186,7 +186,7 @@ begins : (array : List ℕ) → 4 ≤ length array → begin-leaves array ≡ le
 unfolding begin-leaves
 begins array long = rw (le-ltb _ _ long) refl
 
-pub sends-in-c : (settings : List ℕ) → 5 ≤ length settings → (array answer : List ℕ) (lend : ℕ → List ℕ) (cs : List Call) → 4 ≤ length array
+pub sends-in-c : (settings : List ℕ) → settings-numbers ≤ length settings → (array answer : List ℕ) (lend : ℕ → List ℕ) (cs : List Call) → 4 ≤ length array
     → 2 ≤ length answer → as-sending (run-in-c settings array answer lend cs) ≡ run (settings-of settings) lend cs
 sends-in-c settings stated array answer lend cs long room =
     let start : mux-of (told array (mux-numbers begun)) ≡ begun = stated-again array .mux begun long (omega arith) in

@@ -13,18 +13,24 @@ use Rattle.exports.specs.Extract.{enter-leaves, step-leaves, show-leaves}
 use Rattle.exports.specs.Judging.{judge-leaves, close-leaves}
 use Rattle.exports.specs.Bits.{bit-settings-of, write-leaves, read-leaves}
 use Rattle.exports.specs.Relaying.{load-leaves, route-leaves}
-use Rattle.demands.specs.Numbers.Samples.{small, two-octets, frame, lent, ten, seven, each}
+use Rattle.demands.specs.Numbers.Samples.{small, small-trailed, two-octets, two-trailed, frame, lent, ten, seven, each}
 
--- spacecraft, channel, Z, M and fill; and spacecraft, channel, W and fill
+-- spacecraft, channel, Z, M, fill and trailer; and spacecraft, channel, W, fill and trailer
 abbrev pub settings : List ℕ
-settings = 66 ∷ 3 ∷ 10 ∷ 12 ∷ 0x55 ∷ []
+settings = 66 ∷ 3 ∷ 10 ∷ 12 ∷ 0x55 ∷ 0 ∷ []
+
+abbrev pub settings-trailed : List ℕ
+settings-trailed = 66 ∷ 3 ∷ 10 ∷ 12 ∷ 0x55 ∷ 1 ∷ []
 
 abbrev pub bit-settings : List ℕ
-bit-settings = 66 ∷ 3 ∷ 2 ∷ 0x55 ∷ []
+bit-settings = 66 ∷ 3 ∷ 2 ∷ 0x55 ∷ 0 ∷ []
+
+abbrev pub bit-settings-trailed : List ℕ
+bit-settings-trailed = 66 ∷ 3 ∷ 2 ∷ 0x55 ∷ 1 ∷ []
 
 pub record Settings : Type 0 where
-  pub packets : settings-of settings ≡ small
-  pub bits : bit-settings-of bit-settings ≡ two-octets
+  pub packets : map settings-of (settings ∷ settings-trailed ∷ []) ≡ small ∷ small-trailed ∷ []
+  pub bits : map bit-settings-of (bit-settings ∷ bit-settings-trailed ∷ []) ≡ two-octets ∷ two-trailed ∷ []
 
 -- a data unit of two octets in a packet of protocol 6, extension 5
 abbrev pub six : List ℕ
@@ -155,17 +161,17 @@ pub record Short : Type 0 where
   pub space : read-space-leaves [] (lent 7) ∷ write-space-leaves (lent 6) (lent 6) ∷ [] ≡ left 2 [] [] (lent 7) ∷ left 2 [] (lent 6) [] ∷ []
   -- of settings, of a record and of an answer
   pub mux : begin-leaves (lent 3)
-      ∷ mux-leaves to-flush 1 flush-numbers (lent 4) (lent 4) (lent 2) (lent 1)
-      ∷ mux-leaves to-flush 1 flush-numbers (lent 5) (lent 3) (lent 2) (lent 1)
-      ∷ mux-leaves to-flush 1 flush-numbers (lent 5) (lent 4) (lent 2) []
-      ∷ mux-leaves (to-put []) 2 put-numbers (lent 5) (lent 4) (lent 2) (lent 1)
+      ∷ mux-leaves to-flush 1 flush-numbers (lent 5) (lent 4) (lent 2) (lent 1)
+      ∷ mux-leaves to-flush 1 flush-numbers (lent 6) (lent 3) (lent 2) (lent 1)
+      ∷ mux-leaves to-flush 1 flush-numbers (lent 6) (lent 4) (lent 2) []
+      ∷ mux-leaves (to-put []) 2 put-numbers (lent 6) (lent 4) (lent 2) (lent 1)
       ∷ []
       ≡ left 2 (lent 3) [] [] ∷ left 2 (lent 4) (lent 2) (lent 1) ∷ left 2 (lent 3) (lent 2) (lent 1) ∷ left 2 (lent 4) (lent 2) [] ∷ left 2 (lent 4) (lent 2) (lent 1) ∷ []
-  pub extractor : enter-leaves (lent 4) (lent 4) [] [] (lent 6) ∷ enter-leaves (lent 5) (lent 3) [] [] (lent 6) ∷ enter-leaves (lent 5) (lent 4) [] [] (lent 5) ∷ step-leaves (lent 5) (lent 4) (lent 2) [] (lent 3) ∷ show-leaves (lent 3) [] [] (lent 3) ∷ show-leaves (lent 4) [] [] (lent 2) ∷ []
+  pub extractor : enter-leaves (lent 5) (lent 4) [] [] (lent 6) ∷ enter-leaves (lent 6) (lent 3) [] [] (lent 6) ∷ enter-leaves (lent 6) (lent 4) [] [] (lent 5) ∷ step-leaves (lent 6) (lent 4) (lent 2) [] (lent 3) ∷ show-leaves (lent 3) [] [] (lent 3) ∷ show-leaves (lent 4) [] [] (lent 2) ∷ []
       ≡ left 2 (lent 4) [] (lent 6) ∷ left 2 (lent 3) [] (lent 6) ∷ left 2 (lent 4) [] (lent 5) ∷ left 2 (lent 4) (lent 2) (lent 3) ∷ left 2 [] [] (lent 3) ∷ left 2 [] [] (lent 2) ∷ []
-  pub judge : judge-leaves (lent 4) (lent 4) (lent 2) [] ∷ judge-leaves (lent 5) (lent 3) (lent 2) [] ∷ close-leaves (lent 5) (lent 4) [] (lent 1) ∷ []
+  pub judge : judge-leaves (lent 5) (lent 4) (lent 2) [] ∷ judge-leaves (lent 6) (lent 3) (lent 2) [] ∷ close-leaves (lent 6) (lent 4) [] (lent 1) ∷ []
       ≡ left 2 (lent 4) (lent 2) [] ∷ left 2 (lent 3) (lent 2) [] ∷ left 2 [] [] (lent 1) ∷ []
-  pub bits : write-leaves (lent 3) (lent 1) [] 0 (lent 2) ∷ write-leaves (lent 4) [] [] 0 (lent 2) ∷ read-leaves (lent 3) (lent 2) [] (lent 6) ∷ read-leaves (lent 4) (lent 1) [] (lent 6) ∷ read-leaves (lent 4) (lent 2) [] (lent 5) ∷ []
+  pub bits : write-leaves (lent 4) (lent 1) [] 0 (lent 2) ∷ write-leaves (lent 5) [] [] 0 (lent 2) ∷ read-leaves (lent 4) (lent 2) [] (lent 6) ∷ read-leaves (lent 5) (lent 1) [] (lent 6) ∷ read-leaves (lent 5) (lent 2) [] (lent 5) ∷ []
       ≡ left 2 (lent 1) (lent 2) [] ∷ left 2 [] (lent 2) [] ∷ left 2 (lent 2) [] (lent 6) ∷ left 2 (lent 1) [] (lent 6) ∷ left 2 (lent 2) [] (lent 5) ∷ []
   -- a list that ends within an entry is short too
   pub relay : load-leaves (5 ∷ 256 ∷ 5 ∷ []) paths ∷ load-leaves (5 ∷ 256 ∷ []) (lent 64) ∷ []
@@ -173,19 +179,29 @@ pub record Short : Type 0 where
   pub route : route-leaves 6 (lent 64) ten (lent 2) (lent 2) ∷ route-leaves 6 paths ten (lent 2) (lent 1) ∷ []
       ≡ left 2 [] (lent 2) (lent 2) ∷ left 2 [] (lent 2) (lent 1) ∷ []
 
--- Settings that cannot be are refused by 1, in every call that takes them: a spacecraft above 255, a channel above 62 and a fill above 255, however great; and all stays as it was.
+-- Settings that cannot be are refused by 1, in every call that takes them: a spacecraft above 255, a channel above 62, a fill above 255 and a trailer's
+-- number above 1, however great; and all stays as it was.
 abbrev pub outside : List (List ℕ)
 outside =
-    (256 ∷ 3 ∷ 10 ∷ 12 ∷ 0x55 ∷ [])
-    ∷ (4294967362 ∷ 3 ∷ 10 ∷ 12 ∷ 0x55 ∷ [])
-    ∷ (66 ∷ 63 ∷ 10 ∷ 12 ∷ 0x55 ∷ [])
-    ∷ (66 ∷ 4294967299 ∷ 10 ∷ 12 ∷ 0x55 ∷ [])
-    ∷ (66 ∷ 3 ∷ 10 ∷ 12 ∷ 256 ∷ [])
-    ∷ (66 ∷ 3 ∷ 10 ∷ 12 ∷ 4294967381 ∷ [])
+    (256 ∷ 3 ∷ 10 ∷ 12 ∷ 0x55 ∷ 0 ∷ [])
+    ∷ (4294967362 ∷ 3 ∷ 10 ∷ 12 ∷ 0x55 ∷ 0 ∷ [])
+    ∷ (66 ∷ 63 ∷ 10 ∷ 12 ∷ 0x55 ∷ 0 ∷ [])
+    ∷ (66 ∷ 4294967299 ∷ 10 ∷ 12 ∷ 0x55 ∷ 0 ∷ [])
+    ∷ (66 ∷ 3 ∷ 10 ∷ 12 ∷ 256 ∷ 0 ∷ [])
+    ∷ (66 ∷ 3 ∷ 10 ∷ 12 ∷ 4294967381 ∷ 0 ∷ [])
+    ∷ (66 ∷ 3 ∷ 10 ∷ 12 ∷ 0x55 ∷ 2 ∷ [])
+    ∷ (66 ∷ 3 ∷ 10 ∷ 12 ∷ 0x55 ∷ 4294967297 ∷ [])
     ∷ []
 
 abbrev pub bits-outside : List (List ℕ)
-bits-outside = (256 ∷ 3 ∷ 2 ∷ 0x55 ∷ []) ∷ (66 ∷ 63 ∷ 2 ∷ 0x55 ∷ []) ∷ (4294967362 ∷ 3 ∷ 2 ∷ 0x55 ∷ []) ∷ (66 ∷ 3 ∷ 2 ∷ 256 ∷ []) ∷ []
+bits-outside =
+    (256 ∷ 3 ∷ 2 ∷ 0x55 ∷ 0 ∷ [])
+    ∷ (66 ∷ 63 ∷ 2 ∷ 0x55 ∷ 0 ∷ [])
+    ∷ (4294967362 ∷ 3 ∷ 2 ∷ 0x55 ∷ 0 ∷ [])
+    ∷ (66 ∷ 3 ∷ 2 ∷ 256 ∷ 0 ∷ [])
+    ∷ (66 ∷ 3 ∷ 2 ∷ 0x55 ∷ 2 ∷ [])
+    ∷ (66 ∷ 3 ∷ 2 ∷ 0x55 ∷ 4294967297 ∷ [])
+    ∷ []
 
 pub record Outside : Type 0 where
   pub put : map (λ (s : List ℕ). mux-leaves (to-put seven) 2 put-numbers s (4 ∷ 0 ∷ 2047 ∷ 0 ∷ []) (lent 18) (lent 2)) outside
@@ -272,6 +288,24 @@ pub record Refused : Type 0 where
   -- the first frame that a reader of bits reads
   pub first-read : read-leaves bit-settings (0 ∷ 0 ∷ []) (frame 4 0x00 0x08 (lent 2)) (lent 6) ≡ left 0 (1 ∷ 4 ∷ []) [] (4 ∷ 0 ∷ 0 ∷ 9 ∷ 8 ∷ 2 ∷ [])
 
+-- frames with a trailer: written when the zone is full, and until then as lent; refused by 13, by which nothing changes; a fault for the judge
+pub record Trailers : Type 0 where
+  pub begun : mux-leaves (to-put seven) 2 put-numbers settings-trailed (4 ∷ 0 ∷ 2047 ∷ 0 ∷ []) (lent 20) (lent 2)
+      ≡ left 0 (4 ∷ 7 ∷ 0 ∷ 0 ∷ []) (lent 8 ++ (seven ++ lent 5)) (0 ∷ 1 ∷ [])
+  pub flushed : mux-leaves to-flush 1 flush-numbers settings-trailed (4 ∷ 8 ∷ 0 ∷ 0 ∷ []) (lent 21) (lent 1)
+      ≡ left 0 (5 ∷ 0 ∷ 2047 ∷ 0 ∷ []) (frame 4 0x00 0x00 (lent 8 ++ (0xE1 ∷ 0x02 ∷ 0x29 ∷ 0x56 ∷ 0xFF ∷ []))) (2 ∷ [])
+  pub no-room : mux-leaves to-flush 1 flush-numbers settings-trailed (4 ∷ 8 ∷ 0 ∷ 0 ∷ []) (lent 19) (lent 1) ≡ left 2 (4 ∷ 8 ∷ 0 ∷ 0 ∷ []) (lent 19) (0 ∷ [])
+  pub entered : map (λ (low : ℕ). enter-leaves settings-trailed (2 ∷ 0 ∷ 2 ∷ 0 ∷ []) store (frame 1 0x00 0x03 (rest ++ (0x43 ∷ low ∷ []))) (lent 6)) (0x63 ∷ 0x62 ∷ [])
+      ≡ left 0 (3 ∷ 1 ∷ 2 ∷ 0 ∷ []) [] (1 ∷ 1 ∷ 0 ∷ 0 ∷ 0 ∷ 0 ∷ []) ∷ left 13 (2 ∷ 0 ∷ 2 ∷ 0 ∷ []) [] (0 ∷ 0 ∷ 0 ∷ 0 ∷ 0 ∷ 0 ∷ []) ∷ []
+  pub stepped : step-leaves settings-trailed (3 ∷ 1 ∷ 0 ∷ 3 ∷ []) store (frame 1 0x00 0x03 (rest ++ lent 2)) (lent 4)
+      ≡ left 0 (3 ∷ 1 ∷ 0 ∷ 10 ∷ []) store (2 ∷ 1 ∷ 11 ∷ 7 ∷ [])
+  pub judged : map (λ (low : ℕ). judge-leaves settings-trailed (1 ∷ 1 ∷ 0 ∷ 2 ∷ []) store (frame 1 0x00 0x03 (rest ++ (0x43 ∷ low ∷ [])))) (0x63 ∷ 0x62 ∷ [])
+      ≡ left 0 (1 ∷ 2 ∷ 1 ∷ 0 ∷ []) (0xE9 ∷ 0x05 ∷ 0x11 ∷ 0x22 ∷ 0x33 ∷ lent 7) [] ∷ left 0 (2 ∷ 2 ∷ 1 ∷ 0 ∷ []) store [] ∷ []
+  pub written : write-leaves bit-settings-trailed (4 ∷ []) (0xAB ∷ []) 8 (lent 13)
+      ≡ left 0 (5 ∷ []) (frame 4 0x00 0x07 (0xAB ∷ 0x55 ∷ 0xDD ∷ 0xA6 ∷ 0xFF ∷ [])) []
+  pub read : map (λ (low : ℕ). read-leaves bit-settings-trailed (1 ∷ 3 ∷ []) (frame 4 0x00 0x07 (0xAB ∷ 0x55 ∷ 0xDD ∷ low ∷ [])) (lent 6)) (0xA6 ∷ 0xA7 ∷ [])
+      ≡ left 0 (1 ∷ 4 ∷ []) [] (4 ∷ 0 ∷ 0 ∷ 8 ∷ 8 ∷ 1 ∷ []) ∷ left 13 (1 ∷ 3 ∷ []) [] (0 ∷ 0 ∷ 0 ∷ 0 ∷ 0 ∷ 0 ∷ []) ∷ []
+
 pub record InC : Type 0 where
   pub short : Short
   pub outside : Outside
@@ -283,3 +317,4 @@ pub record InC : Type 0 where
   pub judge : Judge
   pub bits : Bits
   pub relay : Relay
+  pub trailers : Trailers

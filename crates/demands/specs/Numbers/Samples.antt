@@ -1,6 +1,7 @@
 -- The settings, frames and packets that the examples are made of.
 use Prim.Native.Nat.{ℕ}
 use mathlib.Core.List.{List, [], _∷_, map}
+use mathlib.Core.Bool.{true, false}
 use lib.ListN.{replicate}
 use Rattle.frames.specs.declared.Settings.{Settings}
 use Rattle.frames.specs.declared.bits.BitSettings.{BitSettings}
@@ -8,10 +9,10 @@ use Rattle.frames.specs.declared.bits.BitSettings.{BitSettings}
 -- settings of a packet channel by spacecraft, channel, Z and M, and of a bitstream channel by spacecraft, channel and W
 abbrev pub set : ℕ → ℕ → ℕ → ℕ → Settings
 set spacecraft channel zone limit =
-    record { link = record { spacecraft = spacecraft; channel = channel }; zone = zone; limit = limit; fill = 0x55 }
+    record { link = record { spacecraft = spacecraft; channel = channel; trailed = false }; zone = zone; limit = limit; fill = 0x55 }
 
 abbrev pub set-bits : ℕ → ℕ → ℕ → BitSettings
-set-bits spacecraft channel width = record { link = record { spacecraft = spacecraft; channel = channel }; width = width; fill = 0x55 }
+set-bits spacecraft channel width = record { link = record { spacecraft = spacecraft; channel = channel; trailed = false }; width = width; fill = 0x55 }
 
 -- spacecraft 66, channel 3, Z = 10, M = 12; the same with Z = 0; and the least zone and limit
 abbrev pub small : Settings
@@ -29,6 +30,13 @@ two-octets = set-bits 66 3 2
 
 abbrev pub no-octets : BitSettings
 no-octets = set-bits 66 3 0
+
+-- both with trailers
+abbrev pub small-trailed : Settings
+small-trailed = record { link = record { spacecraft = 66; channel = 3; trailed = true }; zone = 10; limit = 12; fill = 0x55 }
+
+abbrev pub two-trailed : BitSettings
+two-trailed = record { link = record { spacecraft = 66; channel = 3; trailed = true }; width = 2; fill = 0x55 }
 
 -- a frame of that channel: the last octet of its count, the two octets of its zone's header, and its zone
 abbrev pub frame : ℕ → ℕ → ℕ → List ℕ → List ℕ
