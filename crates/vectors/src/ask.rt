@@ -1,4 +1,4 @@
-// What is asked of packets alone. The line of an answer repeats the line that asks.
+// What is asked of packets alone, or of octets. The line of an answer repeats the line that asks.
 use crate::forms::Numbers;
 use crate::forms::Question;
 use crate::header;
@@ -83,6 +83,14 @@ fn lent(limit: usize, p: &[u8]) {
     say::header(packets::read_header(limit, p));
 }
 
+// The remainder of the octets, in two octets.
+fn remainder(p: &[u8]) {
+    let mut shown = [0u8; 2];
+    octets::put(&mut shown, 0, 2, trailer::remainder(p) as u64);
+    say::phrase(say::ANSWER);
+    say::octets(&shown);
+}
+
 // The line of the answer to a line that asks.
 pub(crate) fn answer(q: Question, n: Numbers, line: &[u8], e: Ends, p: &[u8]) -> Ends {
     let limit = e.settings.limit;
@@ -96,6 +104,7 @@ pub(crate) fn answer(q: Question, n: Numbers, line: &[u8], e: Ends, p: &[u8]) ->
         Question::Lent => lent(limit, p),
         Question::SpaceHeader => header::read(p),
         Question::WriteSpaceHeader => header::write(n),
+        Question::Remainder => remainder(p),
     }
     say::end();
     e

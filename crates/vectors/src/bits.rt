@@ -28,7 +28,7 @@ fn wrote(e: Ends, n: usize, refusal: u8, frame: &[u8]) {
 
 // Writes the first n of the bits that are lent into a frame.
 pub(crate) fn write(e: Ends, n: usize, lent: &[u8]) -> Ends {
-    let mut frame = [0u8; 2055];
+    let mut frame = [0u8; run::LONGEST];
     let answer = bitstream::write(for_bits(e.settings), e.writer, lent, n, &mut frame);
     wrote(e, n, answer.refusal, &frame);
     let writer = answer.writer;

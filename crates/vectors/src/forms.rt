@@ -10,7 +10,7 @@ pub(crate) enum Call {
     IdleZone,
 }
 
-// What is asked of packets alone.
+// What is asked of packets alone, or of octets.
 pub(crate) enum Question {
     // So many octets DD, wrapped.
     Wrap,
@@ -25,6 +25,8 @@ pub(crate) enum Question {
     SpaceHeader,
     // Such a header written into so many octets.
     WriteSpaceHeader,
+    // What a trailer of the octets would be.
+    Remainder,
 }
 
 pub(crate) enum Verb {
@@ -34,6 +36,8 @@ pub(crate) enum Verb {
     Label,
     // A channel at its beginning, for packets and for bits.
     Channel,
+    // Trailers on the channel's frames, from here on.
+    Trailers,
     // Calls of the multiplexer; a packet is put until it is taken.
     Transmit(Call),
     // A frame for the extractor.
@@ -109,6 +113,8 @@ fn verb_at(k: usize) -> Verb {
         18 => Verb::Ask(Question::WriteSpaceHeader),
         19 | 20 => Verb::Load,
         21 => Verb::Route,
+        22 => Verb::Trailers,
+        23 | 24 => Verb::Ask(Question::Remainder),
         _ => Verb::Unknown,
     }
 }
@@ -240,6 +246,9 @@ write space header into % octets: version % type % secondary % APID % flags % co
 load $
 load nothing
 route into % octets: $
+trailers
+remainder $
+remainder of nothing
 ";
     find(forms, line)
 }

@@ -18,6 +18,9 @@ use multiplexer::Mux;
 use multiplexer::Reply;
 use relay::Table;
 
+// The octets of the longest frame: a zone of bits with both headers before it, and a trailer.
+pub(crate) const LONGEST: usize = ZONE_AT + MOST_WIDTH + 2;
+
 // The end that packets come out of: the extractor, and the store of what it holds.
 pub(crate) struct Receiver {
     pub(crate) extractor: Extractor,
@@ -35,7 +38,7 @@ pub(crate) struct Ends {
     pub(crate) label: Given,
     pub(crate) settings: Settings,
     pub(crate) mux: Mux,
-    pub(crate) frame: [u8; 2054],
+    pub(crate) frame: [u8; LONGEST],
     pub(crate) receiver: Receiver,
     pub(crate) writer: Writer,
     pub(crate) bits: BitReceiver,
@@ -48,7 +51,7 @@ struct Called {
     ends: Ends,
 }
 
-// A channel at its beginning, with 55 for its fill: its number, the spacecraft, the zone and the limit.
+// A channel at its beginning, with 55 for its fill and no trailers: its number, the spacecraft, the zone and the limit.
 pub(crate) fn begin(label: Given, n: Numbers) -> Ends {
     Ends {
         label,
@@ -56,13 +59,14 @@ pub(crate) fn begin(label: Given, n: Numbers) -> Ends {
             link: Link {
                 spacecraft: (n.sixth % 4294967296) as u32,
                 channel: (n.fifth % 4294967296) as u32,
+                trailed: false,
             },
             zone: n.seventh,
             limit: n.last,
             fill: 0x55,
         },
         mux: multiplexer::begin(),
-        frame: [0; 2054],
+        frame: [0; LONGEST],
         receiver: Receiver {
             extractor: Extractor::Fresh,
             store: [0; 4096],
@@ -73,6 +77,13 @@ pub(crate) fn begin(label: Given, n: Numbers) -> Ends {
         },
         table: relay::empty(),
     }
+}
+
+// The channel with trailers, at both ends.
+pub(crate) fn trail(e: Ends) -> Ends {
+    let mut after = e;
+    after.settings.link.trailed = true;
+    after
 }
 
 // The line from `from` on for a label.
@@ -91,7 +102,10 @@ pub(crate) fn label(e: Ends, line: &[u8], from: usize) -> Ends {
 // The octets of a frame; 0 where the zone is out of range.
 pub(crate) fn frame_length(s: Settings) -> usize {
     let zone = s.zone;
-    if zone > MOST_WIDTH { 0 } else { zone + ZONE_AT }
+    if zone > MOST_WIDTH {
+        return 0;
+    }
+    ZONE_AT + zone + trailer::extra(s.link.trailed)
 }
 
 fn entered(e: Entry) {

@@ -24,6 +24,7 @@ fn obey(verb: Verb, n: Numbers, p: &[u8], line: &[u8], e: Ends) -> Ends {
     match verb {
         Verb::Label => run::label(e, line, n.last),
         Verb::Channel => run::begin(e.label, n),
+        Verb::Trailers => run::trail(e),
         Verb::Transmit(call) => run::transmit(call, e, p),
         Verb::Read => run::hear(e, p),
         Verb::Put => run::put_long(e, n.seventh, p),
