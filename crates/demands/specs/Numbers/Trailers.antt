@@ -10,12 +10,11 @@ use Rattle.frames.specs.Frame.{frame-length, heading}
 use Rattle.frames.specs.BitFrame.{bit-frame-length, bit-heading}
 use Rattle.multiplexer.specs.Calls.{Call, to-put, to-flush, to-idle, Answer, answer}
 use Rattle.multiplexer.specs.declared.Mux.{Mux}
-use Rattle.extractor.specs.Answers.{EnterSaid, refused-entry, enter-answer, step-answer}
-use Rattle.extractor.specs.declared.Extractor.the-variants.{Fresh, InStep, Walking}
-use Rattle.judge.specs.Calls.{FrameSaid, frame-call}
-use Rattle.judge.specs.declared.Judge.{Judge}
+use Rattle.extractor.specs.Answers.{refused-entry, enter-answer, step-answer}
+use Rattle.extractor.specs.declared.Extractor.the-variants.{InStep, Walking}
+use Rattle.judge.specs.Calls.{frame-call}
 use Rattle.judge.specs.declared.Judge.the-variants.{Sound, Faulty}
-use Rattle.bitstream.specs.Bitstream.{Wrote, written, reading, leading-octets}
+use Rattle.bitstream.specs.Bitstream.{written, reading, leading-octets}
 use Rattle.bitstream.specs.declared.Reader.the-variants.{Last}
 use Rattle.demands.specs.Numbers.Samples.{small-trailed, two-trailed, frame, wrong-headers, lent, ten, seven}
 use Rattle.demands.specs.Numbers.Multiplexing.{mux, done}
