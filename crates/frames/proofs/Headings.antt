@@ -1,25 +1,28 @@
 -- What a header says, with the numbers as the code reads them.
 -- Assumes nothing.
 use mathlib.Core.Path.{_≡_, refl, sym, _∙_}
-use mathlib.Core.List.{List}
-use mathlib.Core.Bool.{true, false}
+use mathlib.Core.List.{List, _∷_}
+use mathlib.Core.Bool.{Bool, true, not}
 use Prim.Native.Nat.{ℕ, suc, _-_, _^_, _≤_, _<_}
 use native.Mathlib.Nat.{zero-mod, le-refl}
 use lib.Pow.{pow-mono}
 use native.Mathlib.Omega.{arith}
 use lib.ListN.{length}
 use lib.Dec.{ltb, eqb}
-use borrow.Author.Tests.{lt-ltb, le-ltb, eq-eqb, ne-eqb, eqb-true}
-use Rattle.octets.specs.Basics.{number-at, first}
+use borrow.Author.Tests.{lt-ltb, le-ltb, eq-eqb, ne-eqb}
+use Rattle.octets.specs.Basics.{number-at, row, first}
 use Rattle.words.specs.Fields.{field, placed}
 use Rattle.octets.proofs.Choices.{split}
+use Rattle.octets.proofs.Tests.{test}
 use Rattle.words.proofs.Fields.{above-past, field-rest, field-lt, foot-lt, foot-only}
 use Rattle.octets.proofs.Numbers.{number-within}
 use Rattle.trailer.specs.Trailer.{wrong}
 use Rattle.frames.specs.Link.{primary, zone-head}
-use Rattle.frames.specs.Shape.{shape-length, both-rows, shape-rows, heading-by, shape-heading}
+use Rattle.frames.specs.Shape.{shape-length, both-rows, outer-rows, shape-rows, no-heading, heading-of, heading-by, shape-heading}
 use Rattle.frames.specs.declared.Link.{Link}
+use Rattle.frames.specs.declared.Heading.{Heading}
 use Rattle.frames.specs.declared.shape.Shape.{Shape}
+use Rattle.frames.proofs.Rows.{sound-before}
 
 -- a number is its own foot where it has no bit above it
 pub foot-fits : (n width : ℕ) → eqb (field n 0 width) n ≡ ltb n (2 ^ width)
@@ -56,10 +59,25 @@ module _ (l : Link) (f : List ℕ) (room : 8 ≤ length f) where
   unfolding zone-head
   zone-head-at = number-within 2 6 f room
 
--- the heading of a frame of the right length and with the right trailer, by both headers' numbers
-pub heading-reads : (h : Shape) (f : List ℕ) {head zone : ℕ} → eqb (length f) (shape-length h) ≡ true → wrong (h .link .trailed) f ≡ false → head ≡ number-at 6 0 f → zone ≡ number-at 2 6 f
+-- with settings in range, what the shape says
+pub heading-ranged : (h : Shape) (f : List ℕ) {settled : Bool} {g : Shape} {r : Heading} → settled ≡ true → g ≡ h → r ≡ shape-heading g (shape-rows g f) f
+    → r ≡ shape-heading h (row 1 (not settled) ∷ shape-rows h f) f
+unfolding first
+heading-ranged h f ranged e q = rw e at q ∙ rw ranged refl
+
+-- a refusal before the headers is the frame's
+pub outer-refused : (h : Shape) (f : List ℕ) {n : ℕ} → n ≡ first (outer-rows h f) → (n ≡ 0 → ⊥) → no-heading n ≡ shape-heading h (shape-rows h f) f
+unfolding first heading-of
+outer-refused h f e some =
+    test (eqb (length f) (shape-length h))
+    (λ t. test (wrong (h .link .trailed) f) (λ u. rw (e, t, u) refl) (λ u. absurd (some (e ∙ rw (t, u) refl))))
+    (λ t. rw (e, t) refl)
+
+-- the heading of a frame that is not refused before its headers, by both headers' numbers
+pub heading-reads : (h : Shape) (f : List ℕ) {head zone : ℕ} → first (outer-rows h f) ≡ 0 → head ≡ number-at 6 0 f → zone ≡ number-at 2 6 f
     → heading-by h (first (both-rows h head zone)) head zone ≡ shape-heading h (shape-rows h f) f
 unfolding first
-heading-reads h f e right p z =
-    let room : 8 ≤ length f = omega (arith, eqb-true (length f) (shape-length h) e) in
-    rw (e, right, p, z, primary-at (h .link) f room, zone-head-at (h .link) f room) refl
+heading-reads h f none p z =
+    let sound = sound-before h f none in
+    let room : 8 ≤ length f = omega (arith, sound .0) in
+    rw (eq-eqb _ _ (sound .0), sound .1, p, z, primary-at (h .link) f room, zone-head-at (h .link) f room) refl

@@ -11,7 +11,7 @@ use Rattle.words.specs.Fields.{read}
 use Rattle.octets.proofs.Choices.{and-true, none-holds}
 use Rattle.trailer.specs.Trailer.{wrong}
 use Rattle.frames.specs.Link.{primary, zone-head, header-rows, version-place, spacecraft-place, channel-place, spare-place}
-use Rattle.frames.specs.Shape.{shape-length, spare-above, pointer-at, shape-unused, shape-rows}
+use Rattle.frames.specs.Shape.{shape-length, spare-above, pointer-at, shape-unused, outer-rows, shape-rows}
 use Rattle.frames.specs.declared.Link.{Link}
 use Rattle.frames.specs.declared.shape.Shape.{Shape}
 
@@ -59,6 +59,12 @@ header-taken l head spare unused h =
 abbrev pub SoundFields : Shape → ℕ → ℕ → Type 0
 SoundFields h head zone =
     SoundHeader (h .link) head (read (spare-above (h .width)) zone) (shape-unused h (read (pointer-at (h .width)) zone))
+
+-- a frame that is not refused before its headers has its length, and its trailer
+pub sound-before : (h : Shape) (f : List ℕ) → first (outer-rows h f) ≡ 0 → (length f ≡ shape-length h) × (wrong (h .link .trailed) f ≡ false)
+sound-before h f e =
+    let n = none-holds 2 _ _ e in
+    (eqb-true _ _ (not-false _ (n .0)), none-holds 12 _ _ (n .1) .0)
 
 pub record SoundFrame (h : Shape) (f : List ℕ) : Type 0 where
   pub length-right : length f ≡ shape-length h

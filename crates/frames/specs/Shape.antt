@@ -1,7 +1,7 @@
 -- The frames of both channels, over the shape in which they differ: the link, the octets of the zone (`size`), the bits of the pointer
 -- (`width`), and the first and the last pointer that is not used (`beyond` and `last`).
 use Prim.Native.Nat.{ℕ, _+_, _-_, _^_}
-use mathlib.Core.List.{List, _∷_}
+use mathlib.Core.List.{List, [], _∷_, _++_}
 use mathlib.Core.Bool.{Bool, not}
 use lib.ListN.{length, take, drop}
 use lib.Dec.{leb, ltb, eqb}
@@ -40,12 +40,13 @@ abbrev pub both-rows : Shape → ℕ → ℕ → List Row
 both-rows h head zone =
     header-rows (h .link) head (read (spare-above (h .width)) zone) (shape-unused h (read (pointer-at (h .width)) zone))
 
--- what a frame to be read is refused for, in order
+-- what a frame to be read is refused for before its headers are looked at: its length, and then its trailer
+abbrev pub outer-rows : Shape → List ℕ → List Row
+outer-rows h f = row 3 (not (eqb (length f) (shape-length h))) ∷ trailer-row (h .link) f ∷ []
+
+-- all that it is refused for, in order
 abbrev pub shape-rows : Shape → List ℕ → List Row
-shape-rows h f =
-    row 3 (not (eqb (length f) (shape-length h)))
-    ∷ trailer-row (h .link) f
-    ∷ both-rows h (primary (h .link) f) (zone-head (h .link) f)
+shape-rows h f = outer-rows h f ++ both-rows h (primary (h .link) f) (zone-head (h .link) f)
 
 -- a refusal alone
 abbrev pub no-heading : ℕ → Heading

@@ -105,7 +105,12 @@ pub fn read_head(s: Settings, frame: &[u8]) -> Heading
     if !in_range(s) {
         return shape::refused(refusals::SETTING);
     }
-    shape::read_head(shape_of(s), frame)
+    let h = shape_of(s);
+    let refusal = shape::outer_refusal(h, frame);
+    if refusal != 0 {
+        return shape::refused(refusal);
+    }
+    shape::read_headers(h, frame)
 }
 
 // Writes both headers of the frame with this count and pointer at the front of buf; nothing, and the row's number, where it is refused.

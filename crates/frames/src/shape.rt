@@ -5,7 +5,7 @@ ghost use Prim.Native.Nat.{_^_};
 ghost use lib.Dec.{ltb, eqb};
 ghost use Rattle.octets.specs.Basics.{pick, first, over};
 ghost use Rattle.frames.specs.Link.{around, head-word};
-ghost use Rattle.frames.specs.Shape.{octets-of, pointer-at, shape-unused, both-rows, shape-rows, no-heading, heading-by, shape-heading, shape-head, shape-head-rows};
+ghost use Rattle.frames.specs.Shape.{octets-of, pointer-at, shape-unused, both-rows, outer-rows, shape-rows, no-heading, heading-by, shape-heading, shape-head, shape-head-rows};
 ghost use Rattle.frames.specs.declared.Link.{Link};
 use super::Heading;
 use super::Link;
@@ -149,16 +149,24 @@ fn heading(h: Shape, head: u64, zone: u16) -> Heading
     }
 }
 
-// What the header of a frame says, or what the frame is refused for, with settings in range.
-pub(crate) fn read_head(h: Shape, frame: &[u8]) -> Heading
-    ensures { λ r. ⌜ r ≡ shape-heading h (shape-rows h (now (frame .entry))) (now (frame .entry)) ⌝ }
+// What a frame is refused for before its headers are looked at.
+pub(crate) fn outer_refusal(h: Shape, frame: &[u8]) -> u8
+    ensures { λ r. ⌜ r ≡ first (outer-rows h (now (frame .entry))) ⌝ }
 {
     if !has_length(h.link, h.size, frame.len()) {
-        return refused(refusals::LENGTH);
+        return refusals::LENGTH;
     }
     if trailer::is_wrong(h.link.trailed, frame) {
-        return refused(refusals::TRAILER);
+        return refusals::TRAILER;
     }
+    0
+}
+
+// What the headers of a frame say that is not refused before them, or what it is refused for by them.
+pub(crate) fn read_headers(h: Shape, frame: &[u8]) -> Heading
+    requires { ⌜ first (outer-rows h (now frame)) ≡ 0 ⌝ }
+    ensures { λ r. ⌜ r ≡ shape-heading h (shape-rows h (now (frame .entry))) (now (frame .entry)) ⌝ }
+{
     heading(h, octets::number6(frame, 0), octets::number2(frame, 6))
 }
 

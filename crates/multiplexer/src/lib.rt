@@ -185,14 +185,19 @@ fn lay_packet(s: Settings, m: Mux, p: &[u8], frame: &mut [u8]) -> Reply
     packet_laid(s, m, n, p.len(), frame)
 }
 
-// Lays the idle packet that fills the zone.
+// Lays the idle packet that fills the zone, and so is taken whole.
 fn lay_idle_packet(s: Settings, m: Mux, frame: &mut [u8]) -> Reply
     requires { ⌜ first (flush-rows s m (length (now frame))) ≡ 0 ⌝ }
     ensures { λ r. ⌜ answers r (now (frame .exit)) ≡ doing (put s m (idle-packet (s .fill) (s .zone - m .filled)) (now (frame .entry))) ⌝ }
 {
     let left = s.zone - m.filled;
     wrapping::write_idle(frame, ZONE_AT + m.filled, left, s.fill);
-    packet_laid(s, m, left, left, frame)
+    let start = start_now(m);
+    Reply::Done {
+        full: true,
+        taken: true,
+        mux: count_in(s, m, start, left, 0, frame),
+    }
 }
 
 // Fills the zone with the fill octet.
