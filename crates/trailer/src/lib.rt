@@ -5,6 +5,9 @@ ghost use Rattle.trailer.specs.Trailer.{right, trailed, extra, wrong, en
 
 mod entries;
 
+// A trailer has so many octets.
+pub const OCTETS: usize = 2;
+
 // The register before the first octet.
 const PRESET: u16 = 0xFFFF;
 
@@ -46,7 +49,7 @@ fn put_trailer(buf: &mut [u8], at: usize)
         return;
     }
     let r = remainder(&buf[..at]);
-    octets::put(buf, at, 2, r as u64);
+    octets::put(buf, at, OCTETS, r as u64);
 }
 
 // ---- as a setting
@@ -55,7 +58,7 @@ fn put_trailer(buf: &mut [u8], at: usize)
 pub fn extra(on: bool) -> usize
     ensures { λ r. ⌜ r ≡ extra on ⌝ }
 {
-    if on { 2 } else { 0 }
+    if on { OCTETS } else { 0 }
 }
 
 // Whether the trailer of a frame is wrong; never where there is none.

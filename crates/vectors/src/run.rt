@@ -19,7 +19,7 @@ use multiplexer::Reply;
 use relay::Table;
 
 // The octets of the longest frame: a zone of bits with both headers before it, and a trailer.
-pub(crate) const LONGEST: usize = ZONE_AT + MOST_WIDTH + 2;
+pub(crate) const LONGEST: usize = ZONE_AT + MOST_WIDTH + trailer::OCTETS;
 
 // The end that packets come out of: the extractor, and the store of what it holds.
 pub(crate) struct Receiver {
