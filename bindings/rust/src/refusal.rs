@@ -49,7 +49,7 @@ impl Refusal {
         Refusal::Trailer,
     ];
 
-    /// Its number, 1 to 13, as `aosread` prints it.
+    /// Its number, 1 to 13.
     pub fn number(self) -> u64 {
         self as u64
     }

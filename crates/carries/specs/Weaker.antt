@@ -1,9 +1,9 @@
--- Runs that a weaker rule than `Carries` would carry, and that the judge faults: rising counts, well-formed packets, pointers and the place of idle zones
--- are all needed.
+-- Runs that a weaker rule than `Carries` would carry, and that the judge faults: the trailer, rising counts, well-formed packets, pointers and the place
+-- of idle zones are all needed.
 use Prim.Native.Nat.{ℕ}
 use mathlib.Core.Path.{_≡_}
-use mathlib.Core.Bool.{false}
-use mathlib.Core.List.{List, [], _∷_}
+use mathlib.Core.Bool.{true, false}
+use mathlib.Core.List.{List, [], _∷_, _++_, map}
 use lib.ListN.{take}
 use Rattle.octets.specs.Basics.{All}
 use Rattle.packets.specs.Packet.{WellFormed, end-to-end}
@@ -15,6 +15,10 @@ use Rattle.carries.specs.Carries.{starts, first-start, Between, LaidFrom
 -- Z = 2, M = 7
 abbrev pub small : Settings
 small = record { link = record { spacecraft = 66; channel = 3; trailed = false }; zone = 2; limit = 7; fill = 0x55 }
+
+-- the same with trailers
+abbrev pub small-trailed : Settings
+small-trailed = record { link = record { spacecraft = 66; channel = 3; trailed = true }; zone = 2; limit = 7; fill = 0x55 }
 
 -- a frame of the channel: its count, the two octets of its pointer, and the two of its zone
 abbrev pub framed : ℕ → ℕ → ℕ → ℕ → ℕ → List ℕ
@@ -41,6 +45,14 @@ no-packet = 0x20 ∷ 0x00 ∷ []
 
 -- each run under the rule whose one part is weaker, and beside it, where there is one, the run that the rule carries
 pub record Weaker : Type 0 where
+  -- a run that is carried without trailers: with them by its own alone
+  pub untrailed :
+      let f : List ℕ = framed 0 0x00 0x00 0xE9 0x02 in
+      let ps : List (List ℕ) = short-packet ∷ [] in
+      Judged (f ∷ []) (Rising small (f ∷ [])) (All (WellFormed 7) ps) (LaidFrom small ps 0 (f ∷ [])) pass
+  pub trailed :
+      let f : List ℕ = framed 0 0x00 0x00 0xE9 0x02 in
+      map (λ (low : ℕ). verdict small-trailed ((f ++ (0x1F ∷ low ∷ [])) ∷ [])) (0x2B ∷ 0x2A ∷ []) ≡ pass ∷ fault 0 ∷ []
   -- counts that stand still, and counts that rise
   pub still :
       let f : List ℕ = framed 0 0x00 0x00 0xE9 0x02 in

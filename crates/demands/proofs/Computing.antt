@@ -15,7 +15,7 @@ use Rattle.packets.specs.Unwrap.{extension-of, reserved-of, unwrap-rows, unwrap
 use Rattle.space.specs.Space.{space-fields, space-word, space-in-range, space-read-rows, space-reading, space-reads, space-rows, space-writing}
 use Rattle.trailer.specs.Division.{all-bits, moved, divided, remainder}
 use Rattle.trailer.specs.Division as division
-use Rattle.trailer.specs.Trailer.{trailer, right, trailed, extra, sent, wrong, ended}
+use Rattle.trailer.specs.Trailer.{trailer, right, with-trailer, extra, sent, wrong, ended}
 use Rattle.frames.specs.Link.{link-in-range, primary, zone-head, header-rows, written-rows, head-word, headers, count-width, next-count, missing}
 use Rattle.frames.specs.Frame.{in-range, frame-length, zone-of, unused, frame-rows, heading-rows, heading-of, heading, head, head-rows}
 use Rattle.frames.specs.BitFrame.{bits-in-range, bit-frame-length, bit-zone-of, bit-unused, bit-frame-rows, bit-heading-rows, bit-heading, bit-head, bit-head-rows}
@@ -52,7 +52,7 @@ unfolding packets same tables.stands twice above unfit load-rows table-of loadin
 relays = tt
 
 unfoldable pub trailers : Unit {0}
-unfolding packets all-bits moved division.bits division.step divided remainder trailer right trailed extra sent wrong ended
+unfolding packets all-bits moved division.bits division.step divided remainder trailer right with-trailer extra sent wrong ended
 trailers = tt
 
 unfoldable pub frames : Unit {0}

@@ -3,7 +3,8 @@
 use Rattle.words.proofs.Fields.{placed-read, placed-below, placed-above}
 use Rattle.wrapping.proofs.Rounds.{round-trip}
 use Rattle.space.proofs.Spaces.{space-written-read, space-read-written}
-use Rattle.trailer.proofs.Printed.{as-printed}
+use Rattle.trailer.proofs.Printed.{as-printed, syndrome}
+use Rattle.trailer.proofs.Sharp.{sharp}
 use Rattle.frames.proofs.Theorems.{headers-read}
 use Rattle.frames.proofs.Worth.{worth}
 use Rattle.bitstream.proofs.ReadBack.{read-back, has-bits}
@@ -18,7 +19,7 @@ pub demand-2 : Demand2
 demand-2 = record {
   fields = record { read = placed-read; below = placed-below; above = placed-above };
   headers-read = headers-read;
-  trailers = record { as-printed = as-printed; worth = worth };
+  trailers = record { as-printed = as-printed; syndrome = syndrome; worth = worth; sharp = sharp };
   packets-read = record { wrapped = round-trip; space = space-written-read; space-again = space-read-written; space-same = same-header };
   bits-read = record { written-read = read-back; read-has = λ s x f o done. has-bits s x f o done };
   orders = run-delivers;

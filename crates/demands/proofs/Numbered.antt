@@ -36,6 +36,8 @@ ranges = record {
   bits-in = refl;
   bits-out = refl;
   bit-tests = refl;
+  trailers = λ s on. refl;
+  bit-trailers = λ s on. refl;
   limits = refl;
   formed = refl;
   protocols = refl;
@@ -399,7 +401,7 @@ trailer-octets = record {
 }
 
 trailers-refused : trailers.Refusals
-unfolding computing.frames
+unfolding computing.judging computing.bitstreams
 trailers-refused = record {
   lengths = refl;
   other-lengths = refl;
@@ -408,6 +410,8 @@ trailers-refused = record {
   behind = refl;
   bits-before = refl;
   bits-behind = refl;
+  last = refl;
+  bits-last = refl;
 }
 
 trailed : trailers.Outcomes

@@ -10,8 +10,11 @@ use lib.Dec.{leb, eqb}
 use borrow.Author.Tests.{le-leb}
 use Rattle.octets.specs.Basics.{All}
 use Rattle.frames.specs.Frame.{in-range}
+use Rattle.frames.specs.BitFrame.{bits-in-range}
 use Rattle.frames.specs.declared.Settings.{Settings}
+use Rattle.frames.specs.declared.bits.BitSettings.{BitSettings}
 use Rattle.frames.proofs.Settled.{settled}
+use Rattle.frames.proofs.bits.Settled.{bits-settled}
 use Rattle.multiplexer.specs.Calls.{Call, to-put}
 use Rattle.extractor.specs.Extract.{events-in}
 use Rattle.extractor.specs.Calls.{Listened}
@@ -19,6 +22,7 @@ use Rattle.extractor.proofs.Theorems.{says-the-rules}
 use Rattle.judge.specs.Calls.{CloseSaid, RunCalls}
 use Rattle.arrays.specs.Arrays.{bit}
 use Rattle.exports.specs.Channel.{settings-numbers, zone-for, link-of, settings-of}
+use Rattle.exports.specs.Bits.{bit-settings-of}
 use Rattle.carries.specs.Careful.{Sending, run}
 use Rattle.carries.specs.Demand2List.{Delivers}
 use Rattle.demands.specs.Demand3.{HandsOver}
@@ -53,6 +57,20 @@ states : (s : Settings) (rest : List ℕ) → in-range s ≡ true → s .fill �
 unfolding settings-of link-of zone-for
 states s rest ok octet =
     let range = settled s ok in
+    rw (
+      uncut (s .link .spacecraft) 4294967295 (omega (arith, range)),
+      uncut (s .link .channel) 4294967295 (omega (arith, range)),
+      uncut (s .fill) 255 octet,
+      le-leb (s .fill) 255 octet,
+      flag-fits (s .link .trailed),
+      flag-back (s .link .trailed),
+    ) refl
+
+bits-state : (s : BitSettings) (rest : List ℕ) → bits-in-range s ≡ true → s .fill ≤ 255
+    → bit-settings-of (s .link .spacecraft ∷ s .link .channel ∷ s .width ∷ s .fill ∷ bit (s .link .trailed) ∷ rest) ≡ s
+unfolding bit-settings-of link-of zone-for
+bits-state s rest ok octet =
+    let range = bits-settled s ok in
     rw (
       uncut (s .link .spacecraft) 4294967295 (omega (arith, range)),
       uncut (s .link .channel) 4294967295 (omega (arith, range)),
@@ -116,4 +134,4 @@ module _ (settings : List ℕ) (stated : settings-numbers ≤ length settings) w
       }
 
 pub over-c : OverC
-over-c = record { runs = runs-in-c; demand-2 = demand-2-in-c; demand-3 = demand-3-in-c; stated = states }
+over-c = record { runs = runs-in-c; demand-2 = demand-2-in-c; demand-3 = demand-3-in-c; stated = states; bits-stated = bits-state }

@@ -10,7 +10,8 @@ use Rattle.wrapping.specs.Wrap.{wrapped-total, wrap-rows}
 use Rattle.wrapping.specs.Wrap as wrapping
 use Rattle.space.specs.Space.{space-read-rows, space-rows, space-reading, space-writing}
 use Rattle.space.specs.declared.SpaceHeader.{SpaceHeader}
-use Rattle.trailer.specs.Printed.{AsPrinted}
+use Rattle.trailer.specs.Printed.{AsPrinted, Syndrome}
+use Rattle.trailer.specs.WrongBits.{Sharp}
 use Rattle.frames.specs.Statements.{HeadersRead}
 use Rattle.frames.specs.Worth.{Worth}
 use Rattle.frames.specs.BitFrame.{bit-frame-length}
@@ -46,10 +47,13 @@ pub record Packets : Type 0 where
       → space-writing (space-reading os .header) os ≡ record { refusal = 0; output = os }
   pub space-same : SameHeader
 
--- the trailer is the remainder that source 004 prints, and a frame with wrong bits of these kinds is refused by it
+-- the trailer is the remainder that source 004 prints, and right where its syndrome is zero; a frame with wrong bits of some kinds is refused by
+-- it, and of a burst one bit longer and of one wrong bit more not each is
 pub record Trailers : Type 0 where
   pub as-printed : AsPrinted
+  pub syndrome : Syndrome
   pub worth : Worth
+  pub sharp : Sharp
 
 -- bits that are written are read back, and a frame that is read has its bits where the promise says
 pub record Bits : Type 0 where

@@ -9,7 +9,9 @@ use lib.ListN.{length}
 use Rattle.octets.specs.Basics.{All}
 use Rattle.packets.specs.Packet.{WellFormed, end-to-end}
 use Rattle.frames.specs.Frame.{in-range, most-frames}
+use Rattle.frames.specs.BitFrame.{bits-in-range}
 use Rattle.frames.specs.declared.Settings.{Settings}
+use Rattle.frames.specs.declared.bits.BitSettings.{BitSettings}
 use Rattle.multiplexer.specs.Calls.{Call, to-put}
 use Rattle.extractor.specs.Extract.{fresh, marked, told, events-in}
 use Rattle.extractor.specs.Calls.{listen}
@@ -21,6 +23,7 @@ use Rattle.arrays.specs.Arrays.{bit}
 use Rattle.exports.specs.Left.{Left}
 use Rattle.exports.specs.Channel.{settings-numbers, settings-of}
 use Rattle.exports.specs.Extract.{step-leaves}
+use Rattle.exports.specs.Bits.{bit-settings-of}
 use Rattle.carries.specs.Carries.{Carries}
 use Rattle.carries.specs.Careful.{run, filler, offered, Formed}
 use Rattle.carries.specs.Demand2List.{Lends, Delivers}
@@ -103,10 +106,12 @@ Demand3InC settings s =
     (array store answer : List ℕ) (fs : List (List ℕ)) → Long array answer 2 → Fit s store → length fs ≤ most-frames
     → JudgesInC settings s array store answer fs
 
--- So it is with every array that is long enough, and the settings that it states; and all settings in range can be stated.
+-- So it is with every array that is long enough, and the settings that it states; and all settings in range can be stated, those of a bitstream channel too.
 pub record OverC : Type 0 where
   pub runs : (settings : List ℕ) → settings-numbers ≤ length settings → RunsInC settings (settings-of settings)
   pub demand-2 : (settings : List ℕ) → settings-numbers ≤ length settings → Demand2InC settings (settings-of settings)
   pub demand-3 : (settings : List ℕ) → settings-numbers ≤ length settings → Demand3InC settings (settings-of settings)
   pub stated : (s : Settings) (rest : List ℕ) → in-range s ≡ true → s .fill ≤ 255
       → settings-of (s .link .spacecraft ∷ s .link .channel ∷ s .zone ∷ s .limit ∷ s .fill ∷ bit (s .link .trailed) ∷ rest) ≡ s
+  pub bits-stated : (s : BitSettings) (rest : List ℕ) → bits-in-range s ≡ true → s .fill ≤ 255
+      → bit-settings-of (s .link .spacecraft ∷ s .link .channel ∷ s .width ∷ s .fill ∷ bit (s .link .trailed) ∷ rest) ≡ s

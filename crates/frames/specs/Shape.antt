@@ -20,7 +20,7 @@ octets-of l size = size + around l
 abbrev pub shape-length : Shape → ℕ
 shape-length h = octets-of (h .link) (h .size)
 
--- the zone is so many octets behind the headers
+-- the zone begins behind the headers, and has so many octets
 abbrev pub shape-zone : Shape → List ℕ → List ℕ
 shape-zone h f = take (h .size) (drop (zone-at (h .link)) f)
 

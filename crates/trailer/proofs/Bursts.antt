@@ -19,7 +19,7 @@ use Rattle.octets.proofs.Tests.{test}
 use Rattle.trailer.specs.Division.{moved, step, divided, bits, all-bits, remainder}
 use Rattle.trailer.specs.Printed.{sums}
 use Rattle.trailer.specs.Trailer.{right}
-use Rattle.trailer.specs.Damage.{Arrives, bit, BurstsSeen}
+use Rattle.trailer.specs.WrongBits.{Received, bit, BurstsSeen}
 use Rattle.trailer.proofs.Moves.{Bits, moves-none, moved-none, step-lt, divided-lt, value, value-lt, value-bits, length-bits, taken, divided-append}
 use Rattle.trailer.proofs.Remainders.{all-bits-bits}
 use Rattle.trailer.proofs.Right.{right-whole}
@@ -31,7 +31,7 @@ abbrev pub Zeros : List ℕ → Type 0
 Zeros bs = (i : ℕ) → getD bs i 0 ≡ 0
 
 -- a register of zeros stays
-pub divided-zeros : (bs : List ℕ) → Zeros bs → divided 0 bs ≡ 0
+divided-zeros : (bs : List ℕ) → Zeros bs → divided 0 bs ≡ 0
 unfolding divided step moved
 divided-zeros [] h = refl
 divided-zeros (b ∷ bs) h = ap (λ (x : ℕ). divided (step 0 x) bs) (h 0) ∙ divided-zeros bs (λ i. h (suc i))
@@ -58,9 +58,8 @@ value-none (b ∷ bs) e zero = no-product b (length bs) (omega arith)
 value-none (b ∷ bs) e (suc i) = value-none bs (omega arith) i
 
 -- up to sixteen bits that leave nothing of nothing are zeros
-pub window-none : (bs : List ℕ) → Bits bs → length bs ≤ 16 → divided 0 bs ≡ 0 → Zeros bs
+window-none : (bs : List ℕ) → Bits bs → length bs ≤ 16 → divided 0 bs ≡ 0 → Zeros bs
 window-none bs hb h e =
-    let n : ℕ = length bs in
     let k : length bs + (16 - length bs) ≡ 16 = omega arith in
     let l : value bs * 2 ^ (16 - length bs) < 2 ^ 16 =
     subst (λ (m : ℕ). value bs * 2 ^ (16 - length bs) < 2 ^ m) k (shl-lt (length bs) (16 - length bs) (value-lt bs hb)) in
@@ -101,7 +100,7 @@ module _ (k : ℕ) (e : List ℕ) (he : Bits e) (before : (i : ℕ) → i < k �
       (sym (ap (λ (r : ℕ). divided r (w ++ c)) (divided-zeros a zeros-before) ∙ divided-append 0 w c)
       ∙ sym (divided-append 0 a (w ++ c)) ∙ ap (divided 0) (sym parts) ∙ z))
 
-  pub burst-zeros : divided 0 e ≡ 0 → Zeros e
+  burst-zeros : divided 0 e ≡ 0 → Zeros e
   burst-zeros z i =
       split k i
       (λ h. split (k + 16) i (after i)
@@ -125,7 +124,7 @@ same-octets (x ∷ f) (y ∷ g) hf hg e s =
     let o : x ≡ y = sym (value-bits 8 x ∙ mod-eq-of-lt (hf .0)) ∙ ap value first ∙ value-bits 8 y ∙ mod-eq-of-lt (hg .0) in
     ap₂ (λ (z : ℕ) (l : List ℕ). z ∷ l) o (same-octets f g (hf .1) (hg .1) (omega arith) rest)
 
-module _ (sent came : List ℕ) (arrives : Arrives sent came) where
+module _ (sent came : List ℕ) (arrives : Received sent came) where
   -- the wrong bits
   abbrev pub wrong : List ℕ
   wrong = sums (all-bits sent) (all-bits came)
@@ -133,7 +132,7 @@ module _ (sent came : List ℕ) (arrives : Arrives sent came) where
   pub as-many-bits : length (all-bits sent) ≡ length (all-bits came)
   as-many-bits = length-all-bits sent ∙ ap (λ (n : ℕ). 8 * n) (arrives .as-many) ∙ sym (length-all-bits came)
 
-  pub wrong-at : (i : ℕ) → getD wrong i 0 ≡ bitXor (bit i sent) (bit i came)
+  wrong-at : (i : ℕ) → getD wrong i 0 ≡ bitXor (bit i sent) (bit i came)
   unfolding bit
   wrong-at = sums-at (all-bits sent) (all-bits came) as-many-bits
 

@@ -16,8 +16,8 @@ use Rattle.octets.proofs.Tests.{test}
 use Rattle.trailer.specs.Division.{moved, step, divided, all-bits}
 use Rattle.trailer.specs.Printed.{sums}
 use Rattle.trailer.specs.Trailer.{right}
-use Rattle.trailer.specs.Damage.{differing, wrong-bits, FewSeen}
-use Rattle.trailer.proofs.Moves.{Bits, moved-lt, moved-none, step-lt}
+use Rattle.trailer.specs.WrongBits.{differing, wrong-bits, FewSeen}
+use Rattle.trailer.proofs.Moves.{Bits, lower-terms, moved-lt, moved-none, step-lt}
 use Rattle.trailer.proofs.Remainders.{all-bits-bits}
 use Rattle.trailer.proofs.Linear.{length-sums, length-all-bits}
 use Rattle.trailer.proofs.Bursts.{Zeros, zeros-divided, wrong, wrong-bit, as-many-bits, none-wrong, seen-unless}
@@ -28,7 +28,7 @@ unfoldable never : ℕ → ℕ → Bool
 never zero r = true
 never (suc n) r = and (not (eqb r (2 ^ 15))) (never n (moved r))
 
-never-test : never 32766 4129 ≡ true
+never-test : never 32766 lower-terms ≡ true
 unfolding never moved
 never-test = refl
 
@@ -88,7 +88,7 @@ two-left (b ∷ bs) l hb two e =
     (λ z. let b0 : b ≡ 0 → ⊥ = eqb-false b 0 z in
     let hb0 : b < 2 = hb .0 in
     let b1 : b ≡ 1 = omega arith in
-    one-left 32766 4129 bs never-test (omega arith) (omega arith) (hb .1) (omega arith) (ap (λ (x : ℕ). divided (step 0 x) bs) (sym b1) ∙ e))
+    one-left 32766 lower-terms bs never-test (omega arith) (omega arith) (hb .1) (omega arith) (ap (λ (x : ℕ). divided (step 0 x) bs) (sym b1) ∙ e))
 
 -- UP TO THREE
 pub few-seen : FewSeen

@@ -9,4 +9,5 @@ pub mod Printed
 pub mod Bursts
 pub mod Odd
 pub mod Few
+pub mod Sharp
 pub mod Vectors

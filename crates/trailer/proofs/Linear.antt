@@ -33,12 +33,12 @@ sums-bits [] ys hx hy = tt
 sums-bits (x ∷ xs) [] hx hy = tt
 sums-bits (x ∷ xs) (y ∷ ys) hx hy = (xor-lt 1 x y (hx .0) (hy .0), sums-bits xs ys (hx .1) (hy .1))
 
-pub sums-none : (xs : List ℕ) → sums xs [] ≡ []
+sums-none : (xs : List ℕ) → sums xs [] ≡ []
 unfolding sums
 sums-none [] = refl
 sums-none (x ∷ xs) = refl
 
-pub sums-append : (xs ys us vs : List ℕ) → length xs ≡ length ys → sums (xs ++ us) (ys ++ vs) ≡ sums xs ys ++ sums us vs
+sums-append : (xs ys us vs : List ℕ) → length xs ≡ length ys → sums (xs ++ us) (ys ++ vs) ≡ sums xs ys ++ sums us vs
 unfolding sums
 sums-append [] [] us vs e = refl
 sums-append [] (y ∷ ys) us vs e = absurd (omega arith)

@@ -16,6 +16,10 @@ use Rattle.octets.proofs.Sums.{xor-assoc, crosswise, xor-apart}
 use Rattle.octets.proofs.Tests.{test}
 use Rattle.trailer.specs.Division.{generator, moved, step, divided, bits}
 
+-- the generator without X^16
+abbrev pub lower-terms : ℕ
+lower-terms = 2 ^ 12 + 2 ^ 5 + 1
+
 -- ---- one move
 
 pub moved-low : (r : ℕ) → r < 2 ^ 15 → moved r ≡ r * 2
@@ -27,26 +31,26 @@ unfolding moved
 moved-top r h = rw (le-ltb r (2 ^ 15) h)
 
 -- within 16 bits: X^16 falls off, and the generator's other terms are added
-moved-within : (r : ℕ) → r < 2 ^ 16 → moved r ≡ bitXor (r * 2 % 2 ^ 16) (r / 2 ^ 15 * 4129)
+moved-within : (r : ℕ) → r < 2 ^ 16 → moved r ≡ bitXor (r * 2 % 2 ^ 16) (r / 2 ^ 15 * lower-terms)
 moved-within r h =
     test (ltb r (2 ^ 15))
     (λ t. let l : r < 2 ^ 15 = ltb-true r (2 ^ 15) t in
     let a : r * 2 % 2 ^ 16 ≡ r * 2 = omega arith in
     let b : r / 2 ^ 15 ≡ 0 = omega arith in
-    moved-low r l ∙ sym (ap₂ (λ (x y : ℕ). bitXor x (y * 4129)) a b ∙ xor-zero-r (r * 2)))
+    moved-low r l ∙ sym (ap₂ (λ (x y : ℕ). bitXor x (y * lower-terms)) a b ∙ xor-zero-r (r * 2)))
     (λ t. let l : 2 ^ 15 ≤ r = ltb-false r (2 ^ 15) t in
     let a : r * 2 ≡ 1 * 2 ^ 16 + r * 2 % 2 ^ 16 = omega arith in
     let b : r / 2 ^ 15 ≡ 1 = omega arith in
-    moved-top r l ∙ ap (λ (x : ℕ). bitXor x (1 * 2 ^ 16 + 4129)) a
-    ∙ xor-block 16 1 1 (r * 2 % 2 ^ 16) 4129 (omega arith) (omega arith) ∙ zero-add (bitXor (r * 2 % 2 ^ 16) 4129)
-    ∙ sym (ap (λ (y : ℕ). bitXor (r * 2 % 2 ^ 16) (y * 4129)) b))
+    moved-top r l ∙ ap (λ (x : ℕ). bitXor x (1 * 2 ^ 16 + lower-terms)) a
+    ∙ xor-block 16 1 1 (r * 2 % 2 ^ 16) lower-terms (omega arith) (omega arith) ∙ zero-add (bitXor (r * 2 % 2 ^ 16) lower-terms)
+    ∙ sym (ap (λ (y : ℕ). bitXor (r * 2 % 2 ^ 16) (y * lower-terms)) b))
 
 pub moved-lt : (r : ℕ) → r < 2 ^ 16 → moved r < 2 ^ 16
 moved-lt r h =
-    subst⁻¹ (λ (x : ℕ). x < 2 ^ 16) (moved-within r h) (xor-lt 16 (r * 2 % 2 ^ 16) (r / 2 ^ 15 * 4129) (omega arith) (omega arith))
+    subst⁻¹ (λ (x : ℕ). x < 2 ^ 16) (moved-within r h) (xor-lt 16 (r * 2 % 2 ^ 16) (r / 2 ^ 15 * lower-terms) (omega arith) (omega arith))
 
-digit-times : (x y : ℕ) → x < 2 → y < 2 → bitXor x y * 4129 ≡ bitXor (x * 4129) (y * 4129)
-digit-times x y hx hy = eqb-true _ _ (at2 2 2 (λ x y. eqb (bitXor x y * 4129) (bitXor (x * 4129) (y * 4129))) refl x y hx hy)
+digit-times : (x y : ℕ) → x < 2 → y < 2 → bitXor x y * lower-terms ≡ bitXor (x * lower-terms) (y * lower-terms)
+digit-times x y hx hy = eqb-true _ _ (at2 2 2 (λ x y. eqb (bitXor x y * lower-terms) (bitXor (x * lower-terms) (y * lower-terms))) refl x y hx hy)
 
 -- SUMS MOVE AS SUMS
 pub moved-xor : (a b : ℕ) → a < 2 ^ 16 → b < 2 ^ 16 → moved (bitXor a b) ≡ bitXor (moved a) (moved b)
@@ -54,8 +58,8 @@ moved-xor a b ha hb =
     moved-within (bitXor a b) (xor-lt 16 a b ha hb)
     ∙ ap₂ bitXor
     (ap (λ (x : ℕ). x % 2 ^ 16) double ∙ xor-mod (a * 2) (b * 2) 16)
-    (ap (λ (x : ℕ). x * 4129) (xor-shr a b 15) ∙ digit-times (a / 2 ^ 15) (b / 2 ^ 15) (omega arith) (omega arith))
-    ∙ crosswise (a * 2 % 2 ^ 16) (b * 2 % 2 ^ 16) (a / 2 ^ 15 * 4129) (b / 2 ^ 15 * 4129)
+    (ap (λ (x : ℕ). x * lower-terms) (xor-shr a b 15) ∙ digit-times (a / 2 ^ 15) (b / 2 ^ 15) (omega arith) (omega arith))
+    ∙ crosswise (a * 2 % 2 ^ 16) (b * 2 % 2 ^ 16) (a / 2 ^ 15 * lower-terms) (b / 2 ^ 15 * lower-terms)
     ∙ sym (ap₂ bitXor (moved-within a ha) (moved-within b hb))
   where
     double : bitXor a b * 2 ≡ bitXor (a * 2) (b * 2)

@@ -16,13 +16,13 @@ use Rattle.octets.proofs.Sums.{xor-assoc, crosswise}
 use Rattle.octets.proofs.Tests.{test}
 use Rattle.trailer.specs.Division.{generator, moved, step, divided, all-bits}
 use Rattle.trailer.specs.Printed.{sums}
-use Rattle.trailer.specs.Damage.{differing, wrong-bits, OddSeen}
+use Rattle.trailer.specs.WrongBits.{differing, wrong-bits, OddSeen}
 use Rattle.trailer.proofs.Moves.{Bits, moved-low, moved-top, moved-lt, step-lt}
 use Rattle.trailer.proofs.Remainders.{all-bits-bits}
 use Rattle.trailer.proofs.Bursts.{wrong, wrong-bit, as-many-bits, seen-unless}
 
 -- the sum of the lowest n bits of a number: 1 where they are odd in number
-unfoldable pub parity : ℕ → ℕ → ℕ
+unfoldable parity : ℕ → ℕ → ℕ
 parity zero v = 0
 parity (suc n) v = bitXor (v % 2) (parity n (v / 2))
 

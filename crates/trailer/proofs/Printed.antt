@@ -6,15 +6,17 @@ use Prim.Native.Nat.{ℕ, zero, suc, _+_, _^_, _<_}
 use native.Mathlib.Nat.{add-comm}
 use native.Mathlib.Omega.{arith}
 use lib.ListN.{length, replicate, length-append, length-replicate}
+use lib.Dec.{eqb}
 use lib.Bits.{bitXor, xor-lt, xor-zero-r}
 use Rattle.octets.proofs.Fronts.{all-joined, all-same}
 use Rattle.octets.proofs.Sums.{crosswise}
 use Rattle.trailer.specs.Division.{preset, moved, step, divided, all-bits, remainder, brought-down, modulo, sixteen-zeros}
-use Rattle.trailer.specs.Printed.{sums, printed, AsPrinted}
+use Rattle.trailer.specs.Printed.{sums, printed, AsPrinted, Syndrome}
 use Rattle.trailer.proofs.Moves.{Bits, moved-xor, moves, moves-nothing}
 use Rattle.trailer.proofs.LongDivision.{brought-sum, brought-lt, modulo-lt, modulo-append, modulo-zeros, ahead}
 use Rattle.trailer.proofs.Remainders.{all-bits-bits}
 use Rattle.trailer.proofs.Linear.{divided-sums}
+use Rattle.trailer.proofs.Right.{right-whole}
 
 modulo-sums : (a b : ℕ) (xs ys : List ℕ) → a < 2 ^ 16 → b < 2 ^ 16 → Bits xs → Bits ys → length xs ≡ length ys
     → modulo (bitXor a b) (sums xs ys) ≡ bitXor (modulo a xs) (modulo b ys)
@@ -69,3 +71,6 @@ formula m hm =
 pub as-printed : AsPrinted
 unfolding remainder
 as-printed os = register (all-bits os) (all-bits-bits os) ∙ sym (formula (all-bits os) (all-bits-bits os))
+
+pub syndrome : Syndrome
+syndrome f small = right-whole f small ∙ ap (λ (n : ℕ). eqb n 0) (as-printed f)

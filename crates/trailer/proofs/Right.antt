@@ -19,13 +19,13 @@ use Rattle.octets.proofs.Written.{length-octets, length-run, laid-within, laid-
 use Rattle.octets.proofs.Fronts.{all-take, all-drop}
 use Rattle.octets.proofs.Sums.{xor-apart}
 use Rattle.trailer.specs.Division.{preset, divided, bits, all-bits, remainder}
-use Rattle.trailer.specs.Trailer.{trailer, right, trailed}
+use Rattle.trailer.specs.Trailer.{trailer, right, with-trailer}
 use Rattle.trailer.proofs.Moves.{moves, moves-none, moves-nothing, value, value-bits, length-bits, taken, taken-bits}
 use Rattle.trailer.proofs.Remainders.{all-bits-bits, remainder-append, remainder-lt, remainder-none, remainder-one}
 
 -- ---- two octets more
 
-pub value-append : (xs ys : List ℕ) → value (xs ++ ys) ≡ value xs * 2 ^ length ys + value ys
+value-append : (xs ys : List ℕ) → value (xs ++ ys) ≡ value xs * 2 ^ length ys + value ys
 unfolding value
 value-append [] ys = omega arith
 value-append (x ∷ xs) ys =
@@ -142,19 +142,16 @@ right-only f small t =
     apart (cc))
 
 -- the frame in a buffer to which the trailer was written, and where nothing is written
-pub trailed-frame : (buffer : List ℕ) (at : ℕ) → at + 2 ≤ length buffer → take (at + 2) (trailed buffer at) ≡ take at buffer ++ trailer (take at buffer)
-unfolding trailed trailer
-trailed-frame buffer at h =
+pub with-trailer-frame : (buffer : List ℕ) (at : ℕ) → at + 2 ≤ length buffer → take (at + 2) (with-trailer buffer at) ≡ take at buffer ++ trailer (take at buffer)
+unfolding with-trailer trailer
+with-trailer-frame buffer at h =
     let t : List ℕ = octets 2 (remainder (take at buffer)) in
     let two : length t ≡ 2 = length-octets 2 (remainder (take at buffer)) in
     ap₂ (λ (n : ℕ) (l : List ℕ). take (at + n) l) (sym two) (laid-within buffer at t (omega arith))
     ∙ over-take buffer at t (omega arith)
 
-pub trailed-right : (buffer : List ℕ) (at : ℕ) → at + 2 ≤ length buffer → right (take (at + 2) (trailed buffer at)) ≡ true
-trailed-right buffer at h = ap right (trailed-frame buffer at h) ∙ right-written (take at buffer)
-
-pub trailed-past : (buffer : List ℕ) (at : ℕ) → length buffer < at + 2 → trailed buffer at ≡ buffer
-unfolding trailed trailer
-trailed-past buffer at h =
+pub with-trailer-past : (buffer : List ℕ) (at : ℕ) → length buffer < at + 2 → with-trailer buffer at ≡ buffer
+unfolding with-trailer trailer
+with-trailer-past buffer at h =
     let two : length (octets 2 (remainder (take at buffer))) ≡ 2 = length-octets 2 (remainder (take at buffer)) in
     laid-past buffer at (octets 2 (remainder (take at buffer))) (omega arith)

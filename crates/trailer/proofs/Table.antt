@@ -15,11 +15,18 @@ use Rattle.trailer.proofs.Moves.{moves, moves-xor, moves-up, bits-bits,
 use Rattle.trailer.proofs.LongDivision.{zeros-behind}
 
 -- THE TABLE'S RULE: a test that is computed over all of a table at once, and what it says of each entry
+abbrev entry-test : List ℕ → ℕ → Bool
+entry-test t o = eqb (getD t o 0) (modulo 0 (bits 8 o ++ sixteen-zeros))
+
 abbrev pub test-all : List ℕ → Bool
-test-all t = below 256 (λ o. eqb (getD t o 0) (modulo 0 (bits 8 o ++ sixteen-zeros)))
+test-all t = below 256 (entry-test t)
 
 pub table-rule : (t : List ℕ) → test-all t ≡ true → Remainders t
-table-rule t passed = record { entry = λ o h. eqb-true _ _ (at 256 (λ o. eqb (getD t o 0) (modulo 0 (bits 8 o ++ sixteen-zeros))) passed o h) }
+table-rule t passed = record { entry = λ o h. eqb-true _ _ (at 256 (entry-test t) passed o h) }
+
+-- the high half of the register with the octet added is an octet
+pub place-lt : (r o : ℕ) → r < 2 ^ 16 → o < 2 ^ 8 → bitXor (r / 2 ^ 8) o < 2 ^ 8
+place-lt r o hr ho = xor-lt 8 (r / 2 ^ 8) o (omega arith) ho
 
 -- AN OCTET AT ONCE: the low half of the register moves up, and the entry for the sum of its high half and the octet is added
 pub octet-step : (t : List ℕ) → Remainders t → (r o : ℕ) → r < 2 ^ 16 → o < 2 ^ 8
@@ -39,7 +46,7 @@ octet-step t table r o hr ho =
     l = r % 2 ^ 8
 
     hq : q < 2 ^ 8
-    hq = xor-lt 8 (r / 2 ^ 8) o (omega arith) ho
+    hq = place-lt r o hr ho
 
     low-moved : r * 2 ^ 8 % 2 ^ 16 ≡ moves 8 l
     low-moved =

@@ -5,6 +5,9 @@ use mathlib.Core.Path.{_≡_}
 use mathlib.Core.List.{List, [], _∷_, _++_}
 use lib.Bits.{bitXor}
 use lib.ListN.{length, replicate}
+use lib.Dec.{eqb}
+use Rattle.octets.specs.Basics.{AllOctets}
+use Rattle.trailer.specs.Trailer.{right}
 use Rattle.trailer.specs.Division.{all-bits, remainder, modulo, sixteen-zeros}
 
 -- the sum of two polynomials of as many coefficients
@@ -19,3 +22,7 @@ printed m = modulo 0 (sums (m ++ sixteen-zeros) (replicate 16 1 ++ replicate (le
 
 abbrev pub AsPrinted : Type 0
 AsPrinted = (os : List ℕ) → remainder os ≡ printed (all-bits os)
+
+-- a frame is right exactly where its syndrome is zero
+abbrev pub Syndrome : Type 0
+Syndrome = (f : List ℕ) → AllOctets f → right f ≡ eqb (printed (all-bits f)) 0

@@ -1,7 +1,7 @@
 // The frame error control field of source 004: a remainder of 16 bits over all octets before it.
 ghost use mathlib.Core.Path.{_≡_};
 ghost use Rattle.trailer.specs.Division.{bits, divided, remainder, Remainders};
-ghost use Rattle.trailer.specs.Trailer.{right, trailed, extra, wrong, ended};
+ghost use Rattle.trailer.specs.Trailer.{right, with-trailer, extra, wrong, ended};
 
 mod entries;
 
@@ -43,7 +43,7 @@ fn is_right(frame: &[u8]) -> bool
 
 // Writes the trailer of the first `at` octets of buf over the two octets after them; nothing where it does not fit.
 fn put_trailer(buf: &mut [u8], at: usize)
-    ensures { λ _. ⌜ now (buf .exit) ≡ trailed (now (buf .entry)) at ⌝ }
+    ensures { λ _. ⌜ now (buf .exit) ≡ with-trailer (now (buf .entry)) at ⌝ }
 {
     if buf.len() < at {
         return;

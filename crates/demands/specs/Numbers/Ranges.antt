@@ -2,7 +2,7 @@
 use Prim.Native.Nat.{ℕ}
 use mathlib.Core.Path.{_≡_}
 use mathlib.Core.List.{List, [], _∷_, map}
-use mathlib.Core.Bool.{true, false}
+use mathlib.Core.Bool.{Bool, true, false}
 use lib.ListN.{replicate}
 use Rattle.octets.specs.Basics.{and, first}
 use Rattle.packets.specs.Packet.{limit-in-range, well-formed}
@@ -23,7 +23,7 @@ use Rattle.judge.specs.declared.Judge.the-variants.{Open}
 use Rattle.bitstream.specs.Bitstream.{written}
 use Rattle.bitstream.specs.Bitstream as bits
 use Rattle.bitstream.specs.declared.Reader.the-variants as reader
-use Rattle.demands.specs.Numbers.Samples.{set, set-bits, small, two-octets, lent}
+use Rattle.demands.specs.Numbers.Samples.{set, set-bits, trailing, bit-trailing, small, two-octets, lent}
 
 -- Z 1 to 2,046; M from the greater of 7 and Z to 65,542; spacecraft 0 to 255; channel 0 to 62
 abbrev pub inside : List Settings
@@ -71,6 +71,9 @@ pub record Edges : Type 0 where
   pub bits-in : map bit-calls (set-bits 0 0 1 ∷ set-bits 255 62 2047 ∷ []) ≡ replicate 2 (2 ∷ 2 ∷ 3 ∷ 3 ∷ [])
   pub bits-out : map bit-calls (set-bits 0 0 0 ∷ set-bits 0 0 2048 ∷ set-bits 256 0 1 ∷ set-bits 0 63 1 ∷ []) ≡ replicate 4 (1 ∷ 1 ∷ 1 ∷ 1 ∷ [])
   pub bit-tests : map bits-in-range (set-bits 0 0 1 ∷ set-bits 0 0 2047 ∷ set-bits 0 0 0 ∷ set-bits 0 0 2048 ∷ []) ≡ true ∷ true ∷ false ∷ false ∷ []
+  -- the trailer's setting has no part in it
+  pub trailers : (s : Settings) (on : Bool) → in-range (trailing on s) ≡ in-range s
+  pub bit-trailers : (s : BitSettings) (on : Bool) → bits-in-range (bit-trailing on s) ≡ bits-in-range s
   pub limits : map limit-calls (7 ∷ 65542 ∷ 6 ∷ 65543 ∷ []) ≡ (0 ∷ 8 ∷ 8 ∷ []) ∷ (0 ∷ 8 ∷ 8 ∷ []) ∷ (1 ∷ 1 ∷ 1 ∷ []) ∷ (1 ∷ 1 ∷ 1 ∷ []) ∷ []
   pub formed : map (λ limit. and (limit-in-range limit) (well-formed limit (0xE0 ∷ []))) (7 ∷ 65542 ∷ 6 ∷ 65543 ∷ []) ≡ true ∷ true ∷ false ∷ false ∷ []
   -- protocol 1 to 7; extension to 15 with protocol 6, and else 0; again nothing at all is refused by 8

@@ -23,8 +23,8 @@ abbrev pub running : ℕ → Progress
 running frames = Running (set 66 3 10 1024) frames
 
 -- the same with trailers
-abbrev pub trailing : Progress
-trailing = Running (record { link = record { spacecraft = 66; channel = 3; trailed = true }; zone = 10; limit = 1024; fill = 0 }) 0
+abbrev pub with-trailers : Progress
+with-trailers = Running (record { link = record { spacecraft = 66; channel = 3; trailed = true }; zone = 10; limit = 1024; fill = 0 }) 0
 
 -- a run of one frame
 abbrev pub one-frame : List ℕ
@@ -39,7 +39,7 @@ pub record Records : Type 0 where
   pub setups : map (taken Start 1) (setup ∷ (0xFF ∷ 0x3E ∷ 0x07 ∷ 0xFE ∷ 0x00 ∷ 0x10 ∷ 0x00 ∷ []) ∷ (0 ∷ 0 ∷ 0x00 ∷ 0x01 ∷ 0x00 ∷ 0x10 ∷ 0x01 ∷ []) ∷ (0 ∷ 0 ∷ 0x00 ∷ 0x01 ∷ 0x01 ∷ 0x00 ∷ 0x07 ∷ []) ∷ [])
       ≡ running 0 ∷ Running (set 255 62 2046 4096) 0 ∷ Bad 0 ∷ Bad 0 ∷ []
   -- a setup has no place for a trailer, so that no file leads to one
-  pub no-trailer : body-length trailing 2 ∷ [] ≡ 0 ∷ []
+  pub no-trailer : body-length with-trailers 2 ≡ 0
   -- the kinds 1, 2 and 3 in their order, and how many octets of body each has; any other is bad
   pub bodies : map (body-length Start) (1 ∷ 2 ∷ 3 ∷ []) ++ map (body-length (running 0)) (1 ∷ 2 ∷ 3 ∷ []) ≡ 7 ∷ 0 ∷ 0 ∷ 0 ∷ 18 ∷ 0 ∷ []
   pub first : map (λ kind. taken Start kind setup) (0 ∷ 1 ∷ 2 ∷ 3 ∷ []) ≡ Bad 0 ∷ running 0 ∷ Bad 0 ∷ Bad 0 ∷ []

@@ -1,7 +1,7 @@
 -- The settings, frames and packets that the examples are made of.
 use Prim.Native.Nat.{ℕ}
 use mathlib.Core.List.{List, [], _∷_, map}
-use mathlib.Core.Bool.{true, false}
+use mathlib.Core.Bool.{Bool, true, false}
 use lib.ListN.{replicate}
 use Rattle.frames.specs.declared.Settings.{Settings}
 use Rattle.frames.specs.declared.bits.BitSettings.{BitSettings}
@@ -31,12 +31,21 @@ two-octets = set-bits 66 3 2
 abbrev pub no-octets : BitSettings
 no-octets = set-bits 66 3 0
 
+-- the same settings with trailers, and without
+abbrev pub trailing : Bool → Settings → Settings
+trailing on s =
+    record { link = record { spacecraft = s .link .spacecraft; channel = s .link .channel; trailed = on }; zone = s .zone; limit = s .limit; fill = s .fill }
+
+abbrev pub bit-trailing : Bool → BitSettings → BitSettings
+bit-trailing on s =
+    record { link = record { spacecraft = s .link .spacecraft; channel = s .link .channel; trailed = on }; width = s .width; fill = s .fill }
+
 -- both with trailers
 abbrev pub small-trailed : Settings
-small-trailed = record { link = record { spacecraft = 66; channel = 3; trailed = true }; zone = 10; limit = 12; fill = 0x55 }
+small-trailed = trailing true small
 
 abbrev pub two-trailed : BitSettings
-two-trailed = record { link = record { spacecraft = 66; channel = 3; trailed = true }; width = 2; fill = 0x55 }
+two-trailed = bit-trailing true two-octets
 
 -- a frame of that channel: the last octet of its count, the two octets of its zone's header, and its zone
 abbrev pub frame : ℕ → ℕ → ℕ → List ℕ → List ℕ

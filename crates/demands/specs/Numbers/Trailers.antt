@@ -3,11 +3,12 @@ use Prim.Native.Nat.{ℕ}
 use mathlib.Core.Path.{_≡_}
 use mathlib.Core.List.{List, [], _∷_, _++_, map}
 use mathlib.Core.Bool.{true, false}
-use lib.ListN.{replicate}
+use lib.ListN.{drop, replicate}
 use Rattle.trailer.specs.Trailer.{extra, wrong, ended}
 use Rattle.trailer.specs.Vectors.{Vectors}
 use Rattle.frames.specs.Frame.{frame-length, heading}
 use Rattle.frames.specs.BitFrame.{bit-frame-length, bit-heading}
+use Rattle.frames.specs.declared.Settings.{Settings}
 use Rattle.multiplexer.specs.Calls.{Call, to-put, to-flush, to-idle, Answer, answer}
 use Rattle.multiplexer.specs.declared.Mux.{Mux}
 use Rattle.extractor.specs.Answers.{refused-entry, enter-answer, step-answer}
@@ -16,7 +17,7 @@ use Rattle.judge.specs.Calls.{frame-call}
 use Rattle.judge.specs.declared.Judge.the-variants.{Sound, Faulty}
 use Rattle.bitstream.specs.Bitstream.{written, reading, leading-octets}
 use Rattle.bitstream.specs.declared.Reader.the-variants.{Last}
-use Rattle.demands.specs.Numbers.Samples.{small-trailed, two-trailed, frame, wrong-headers, lent, ten, seven}
+use Rattle.demands.specs.Numbers.Samples.{set, trailing, small-trailed, two-trailed, frame, wrong-headers, lent, ten, seven}
 use Rattle.demands.specs.Numbers.Multiplexing.{mux, done}
 use Rattle.demands.specs.Numbers.Bits.{says}
 
@@ -32,7 +33,7 @@ pub record Octets : Type 0 where
   pub longer : map extra (true ∷ false ∷ []) ≡ 2 ∷ 0 ∷ []
   -- right with its high octet first; wrong where they are swapped, where a bit differs before it or in it, and in fewer octets than it has; never wrong where there is none
   pub right : wrong true (digits ++ (0x29 ∷ 0xB1 ∷ [])) ≡ false
-  pub wrong-ones : map (wrong true) ((digits ++ (0xB1 ∷ 0x29 ∷ [])) ∷ (0x30 ∷ digits ++ (0x29 ∷ 0xB1 ∷ [])) ∷ (digits ++ (0x29 ∷ 0xB0 ∷ [])) ∷ (digits ++ (0x29 ∷ [])) ∷ (0xFF ∷ []) ∷ [] ∷ [])
+  pub wrong-ones : map (wrong true) ((digits ++ (0xB1 ∷ 0x29 ∷ [])) ∷ (0x30 ∷ drop 1 digits ++ (0x29 ∷ 0xB1 ∷ [])) ∷ (digits ++ (0x29 ∷ 0xB0 ∷ [])) ∷ (digits ++ (0x29 ∷ [])) ∷ (0xFF ∷ []) ∷ [] ∷ [])
       ≡ replicate 6 true
   pub none : map (wrong false) ((digits ++ (0x29 ∷ 0xB1 ∷ [])) ∷ (digits ++ (0xB1 ∷ 0x29 ∷ [])) ∷ [] ∷ []) ≡ replicate 3 false
   -- written behind so many octets, over two that were lent; nothing where it does not fit, or where there is none
@@ -60,6 +61,10 @@ reads-bits [] ts = []
 reads-bits (h ∷ hs) [] = []
 reads-bits (h ∷ hs) (t ∷ ts) = bit-heading two-trailed (h ++ (replicate 2 0 ++ t)) .refusal ∷ reads-bits hs ts
 
+-- the channel that is kept for fill frames
+abbrev pub channel-63 : Settings
+channel-63 = trailing true (set 66 63 10 12)
+
 pub record Refusals : Type 0 where
   -- Z+10 and W+10 octets, and no other number of them
   pub lengths : frame-length small-trailed ∷ bit-frame-length two-trailed ∷ [] ≡ 20 ∷ 12 ∷ []
@@ -70,6 +75,15 @@ pub record Refusals : Type 0 where
   pub behind : reads wrong-headers own ≡ 4 ∷ 5 ∷ 6 ∷ 7 ∷ []
   pub bits-before : reads-bits wrong-headers (replicate 4 (lent 2)) ≡ replicate 4 13
   pub bits-behind : reads-bits wrong-headers bits-own ≡ 4 ∷ 5 ∷ 6 ∷ 7 ∷ []
+  -- and behind the settings, the store, the record and the moment
+  pub last : enter-answer channel-63 (Walking 16777216 0 0) [] (lent 20) .answer .refusal
+      ∷ enter-answer small-trailed (Walking 16777216 0 0) [] (lent 20) .answer .refusal
+      ∷ enter-answer small-trailed (Walking 16777216 0 0) (lent 12) (lent 20) .answer .refusal
+      ∷ enter-answer small-trailed (Walking 0 0 0) (lent 12) (lent 20) .answer .refusal
+      ∷ enter-answer small-trailed (InStep 0 0) (lent 12) (lent 20) .answer .refusal
+      ∷ []
+      ≡ 1 ∷ 2 ∷ 10 ∷ 9 ∷ 13 ∷ []
+  pub bits-last : map (λ c. reading two-trailed (Last c) (lent 12) .refusal) (16777216 ∷ 16777215 ∷ []) ≡ 10 ∷ 13 ∷ []
 
 -- ---- what is written and read
 
@@ -90,7 +104,8 @@ pub record Outcomes : Type 0 where
       ≡ done true true (mux 0 0 2047 0) (0x50 ∷ 0x83 ∷ 0xFF ∷ 0xFF ∷ 0xFF ∷ 0 ∷ 0 ∷ 0 ∷ (lent 7 ++ (0xE1 ∷ 3 ∷ 0x55 ∷ 0x06 ∷ 0xCD ∷ lent 2)))
   pub idle-zone : calls (mux 16777215 0 2047 0) to-idle
       ≡ done true false (mux 0 0 2047 0) (0x50 ∷ 0x83 ∷ 0xFF ∷ 0xFF ∷ 0xFF ∷ 0 ∷ 0x07 ∷ 0xFE ∷ (replicate 10 0x55 ++ (0xFF ∷ 0x25 ∷ lent 2)))
-  pub room : map (λ n. answer small-trailed (mux 0 0 2047 0) to-flush (lent n) .refusal) (18 ∷ 19 ∷ 20 ∷ []) ≡ 2 ∷ 2 ∷ 0 ∷ []
+  pub room : map (λ (c : Call). map (λ n. answer small-trailed (mux 0 0 2047 0) c (lent n) .refusal) (18 ∷ 19 ∷ 20 ∷ [])) (to-put ten ∷ to-put seven ∷ to-flush ∷ to-idle ∷ [])
+      ≡ replicate 4 (2 ∷ 2 ∷ 0 ∷ [])
   -- entered with the right one; refused with another, by which the record stays; and a step does not ask for it
   pub entered : map (λ low. enter-answer small-trailed (InStep 6 0) (lent 12) (seventh 0x9D low)) (0xD1 ∷ 0xD0 ∷ [])
       ≡ record { answer = record { refusal = 0; outcome = 1; count = 7; replay = 0; lost = 0; dropped = 0; reason = 0 }; next = Walking 7 0 0 }

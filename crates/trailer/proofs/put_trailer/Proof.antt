@@ -6,21 +6,21 @@ use native.Mathlib.Omega.{arith}
 use lib.Seq.{length-take-le}
 use borrow.Author.Needs.{needs}
 use Rattle.octets.specs.Basics.{octets, laid}
-use Rattle.trailer.specs.Trailer.{trailer, trailed}
-use Rattle.trailer.proofs.Right.{trailed-past}
+use Rattle.trailer.specs.Trailer.{trailer, with-trailer}
+use Rattle.trailer.proofs.Right.{with-trailer-past}
 use Rattle.trailer.proofs.put_trailer.Statement.{statement}
 use Rattle.trailer.proofs.put_trailer.Tie as tie
 
 returns : tie.Need-returns
 returns c =
-    sym (trailed-past (c .before .before .args .buf .now) (c .before .before .args .at) (omega arith))
+    sym (with-trailer-past (c .before .before .args .buf .now) (c .before .before .args .at) (omega arith))
 
 slice-aggregate-remainder : tie.Need-slice-aggregate-remainder
 slice-aggregate-remainder c =
     sym (length-take-le (c .before .before .before .args .at) (c .before .before .before .args .buf .now) (omega arith))
 
 returns-2 : tie.Need-returns-2
-unfolding trailed trailer
+unfolding with-trailer trailer
 returns-2 c =
     let a = c .before .before .before .before .before .before .before .before .args in
     c .before .before .put .ensures .left
