@@ -11,9 +11,10 @@ use borrow.Author.Tests.{le-leb}
 use Rattle.octets.specs.Basics.{All}
 use Rattle.frames.specs.Frame.{in-range}
 use Rattle.frames.specs.BitFrame.{bits-in-range}
+use Rattle.frames.specs.declared.Link.{Link}
 use Rattle.frames.specs.declared.Settings.{Settings}
 use Rattle.frames.specs.declared.bits.BitSettings.{BitSettings}
-use Rattle.frames.proofs.Settled.{settled}
+use Rattle.frames.proofs.Settled.{Linked, settled}
 use Rattle.frames.proofs.bits.Settled.{bits-settled}
 use Rattle.multiplexer.specs.Calls.{Call, to-put}
 use Rattle.extractor.specs.Extract.{events-in}
@@ -52,33 +53,27 @@ flag-back : (b : Bool) → eqb (bit b) 1 ≡ b
 flag-back true = refl
 flag-back false = refl
 
+-- the link, and the octets of the zone, behind the numbers that state them
+link-stated : (l : Link) (rest : List ℕ) → Linked l → link-of (l .spacecraft ∷ l .channel ∷ rest) (bit (l .trailed)) ≡ l
+unfolding link-of
+link-stated l rest range =
+    rw (uncut (l .spacecraft) 4294967295 (omega arith), uncut (l .channel) 4294967295 (omega arith), flag-back (l .trailed)) refl
+
+zone-stated : (zone fill : ℕ) (on : Bool) → fill ≤ 255 → zone-for zone fill (bit on) ≡ zone
+unfolding zone-for
+zone-stated zone fill on octet = rw (le-leb fill 255 octet, flag-fits on) refl
+
 states : (s : Settings) (rest : List ℕ) → in-range s ≡ true → s .fill ≤ 255
     → settings-of (s .link .spacecraft ∷ s .link .channel ∷ s .zone ∷ s .limit ∷ s .fill ∷ bit (s .link .trailed) ∷ rest) ≡ s
-unfolding settings-of link-of zone-for
+unfolding settings-of
 states s rest ok octet =
-    let range = settled s ok in
-    rw (
-      uncut (s .link .spacecraft) 4294967295 (omega (arith, range)),
-      uncut (s .link .channel) 4294967295 (omega (arith, range)),
-      uncut (s .fill) 255 octet,
-      le-leb (s .fill) 255 octet,
-      flag-fits (s .link .trailed),
-      flag-back (s .link .trailed),
-    ) refl
+    rw (link-stated (s .link) _ (settled s ok .on-link), zone-stated (s .zone) (s .fill) (s .link .trailed) octet, uncut (s .fill) 255 octet) refl
 
 bits-state : (s : BitSettings) (rest : List ℕ) → bits-in-range s ≡ true → s .fill ≤ 255
     → bit-settings-of (s .link .spacecraft ∷ s .link .channel ∷ s .width ∷ s .fill ∷ bit (s .link .trailed) ∷ rest) ≡ s
-unfolding bit-settings-of link-of zone-for
+unfolding bit-settings-of
 bits-state s rest ok octet =
-    let range = bits-settled s ok in
-    rw (
-      uncut (s .link .spacecraft) 4294967295 (omega (arith, range)),
-      uncut (s .link .channel) 4294967295 (omega (arith, range)),
-      uncut (s .fill) 255 octet,
-      le-leb (s .fill) 255 octet,
-      flag-fits (s .link .trailed),
-      flag-back (s .link .trailed),
-    ) refl
+    rw (link-stated (s .link) _ (bits-settled s ok .on-link), zone-stated (s .width) (s .fill) (s .link .trailed) octet, uncut (s .fill) 255 octet) refl
 
 module _ (settings : List ℕ) (stated : settings-numbers ≤ length settings) where
   abbrev s : Settings
