@@ -8,4 +8,5 @@ pub mod Readings
 pub mod Pointers
 pub mod ReadBack
 pub mod Reached
+pub mod Losses
 pub mod Passes

@@ -10,7 +10,7 @@ use lib.ListN.{length, replicate, length-append, length-replicate}
 use lib.Dec.{eqb}
 use lib.Seq.{take-at}
 use lib.Pow.{pow-pos}
-use borrow.Author.Tests.{le-leb, lt-ltb, le-ltb, ltb-true}
+use borrow.Author.Tests.{le-leb, lt-ltb, le-ltb, ltb-true, ne-eqb}
 use Rattle.octets.specs.Basics.{AllOctets, octets, first}
 use Rattle.octets.proofs.Fronts.{all-append, all-zeros, all-octets}
 use Rattle.trailer.specs.Trailer.{sent}
@@ -18,10 +18,10 @@ use Rattle.trailer.proofs.Setting.{length-sent, sent-octets, sent-front, sent-r
 use Rattle.frames.specs.Link.{count-width, next-count, primary, head-word, headers}
 use Rattle.frames.specs.BitFrame.{bits-in-range, bit-frame-length, bit-count, most-bits, fill-only, bit-head, bit-pointer-word}
 use Rattle.frames.specs.declared.bits.BitSettings.{BitSettings}
-use Rattle.frames.proofs.Wheel.{count-lt}
+use Rattle.frames.proofs.Wheel.{count-lt, follows-another}
 use Rattle.frames.proofs.bits.Settled.{bits-settled}
 use Rattle.frames.proofs.bits.Heads.{length-bit-head, bit-head-back, bit-frame-taken}
-use Rattle.bitstream.specs.Bitstream.{octets-for, writer-reachable, write-rows, pointer-for, Wrote, written, reader-reachable, read-rows, reading}
+use Rattle.bitstream.specs.Bitstream.{octets-for, writer-reachable, write-rows, pointer-for, valid-bits, Wrote, written, reader-reachable, read-rows, untold, next-reader, reading}
 use Rattle.bitstream.specs.Statements.{WriterReached, nothing-written, wrote-more, ReaderReached, nothing-read, read-more, ReachesAll}
 use Rattle.bitstream.specs.declared.Writer.{Writer}
 use Rattle.bitstream.specs.declared.Reader.{Reader}
@@ -41,7 +41,7 @@ writer-kept s w bits n d h = go (eqb (first (write-rows s w n (length bits) (len
     go false e = rw e h
 
 pub reader-kept : (s : BitSettings) (x : Reader) (f : List ℕ) → reader-reachable s x ≡ true → reader-reachable s (reading s x f .reader) ≡ true
-unfolding reading reader-reachable
+unfolding reading reader-reachable next-reader
 reader-kept s x f h = go (eqb (first (read-rows s x f)) 0) refl
   where
     go : (t : Bool) → eqb (first (read-rows s x f)) 0 ≡ t → reader-reachable s (reading s x f .reader) ≡ true
@@ -58,7 +58,7 @@ unfolding reader-reachable
 reader-passes s x nothing-read = refl
 reader-passes s x (read-more {x = y} f _ r) = reader-kept s y f (reader-passes s y r)
 
--- ---- what passes is reached, where the settings are in range: a writer by so many calls with no bits, a reader by one frame
+-- ---- what passes is reached, where the settings are in range: a writer by so many calls with no bits, a reader by two frames at most
 
 module _ (s : BitSettings) (range : bits-in-range s ≡ true) where
   -- a call with no bits
@@ -106,21 +106,33 @@ module _ (s : BitSettings) (range : bits-in-range s ≡ true) where
       (all-append (bit-head s c fill-only) blank
       (all-append (octets 6 (head-word (s .link) c 0)) (octets 2 (bit-pointer-word fill-only)) (all-octets 6 _) (all-octets 2 _)) (all-zeros (s .width)))
 
-  reads : (c : ℕ) → c < 2 ^ count-width (s .link) → reading s Fresh (idle c) .reader ≡ Last c
-  unfolding reading reader-reachable read-rows first bit-frame-length pointer-for
-  reads c h =
+  reads : (x : Reader) (c : ℕ) → reader-reachable s x ≡ true → c < 2 ^ count-width (s .link) → reading s x (idle c) .reader ≡ next-reader s x c 0
+  unfolding reading read-rows first bit-frame-length pointer-for valid-bits
+  reads x c passes h =
       let eight : length (bit-head s c fill-only) ≡ 8 = length-bit-head s c fill-only in
       let before : length (unsent c) ≡ 8 + s .width = rw (length-append, length-replicate) (omega arith) in
       let long : length (idle c) ≡ bit-frame-length s = omega (arith, length-sent (s .link .trailed) (unsent c)) in
       let headed = sent-front (s .link .trailed) (unsent c) 8 (omega arith) ∙ take-at (bit-head s c fill-only) blank 8 eight in
       let back = bit-head-back s c fill-only (idle c) range h (omega arith) headed in
       let taken = bit-frame-taken s back long (sent-right (s .link .trailed) (unsent c)) (pointer-used s (bits-settled s range) 0 (omega arith)) in
-      rw (range, taken, back .count-back) refl
+      rw (range, passes, taken, back .count-back, back .pointer-back) refl
+
+  -- it leaves its count, and no loss where it is the first; the same frame again does not follow, and its loss waits
+  once : (c : ℕ) → c < 2 ^ count-width (s .link) → ReaderReached s (Last c false)
+  unfolding reader-reachable next-reader untold
+  once c h = subst (ReaderReached s) (reads Fresh c refl h) (read-more (idle c) (all-idle c) nothing-read)
+
+  twice : (c : ℕ) → c < 2 ^ count-width (s .link) → ReaderReached s (Last c true)
+  unfolding reader-reachable next-reader untold count-width
+  twice c h =
+      let other : eqb c (next-count (count-width (s .link)) c) ≡ false = ne-eqb _ _ (λ e. follows-another _ c (omega arith) h (sym e)) in
+      rw other at (subst (ReaderReached s) (reads (Last c false) c (lt-ltb _ _ h) h) (read-more (idle c) (all-idle c) (once c h)))
 
   pub reader-reached : (x : Reader) → reader-reachable s x ≡ true → ReaderReached s x
   unfolding reader-reachable
   reader-reached Fresh h = nothing-read
-  reader-reached (Last c) h = subst (ReaderReached s) (reads c (ltb-true _ _ h)) (read-more (idle c) (all-idle c) nothing-read)
+  reader-reached (Last c false) h = once c (ltb-true _ _ h)
+  reader-reached (Last c true) h = twice c (ltb-true _ _ h)
 
 -- CALLS LEAD EXACTLY TO THE RECORDS THAT PASS
 pub reaches-all : ReachesAll

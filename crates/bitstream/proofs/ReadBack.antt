@@ -22,11 +22,10 @@ use Rattle.frames.specs.declared.bits.BitSettings.{BitSettings}
 use Rattle.frames.proofs.ReadBack.{length-headers}
 use Rattle.frames.proofs.bits.Settled.{BitsSettled, bits-settled}
 use Rattle.frames.proofs.bits.Heads.{length-bit-head, bit-head-back, bit-frame-taken, SoundBits, sound-bits, bit-frame-again}
-use Rattle.bitstream.specs.Bitstream.{octets-for, bit-at, bit-place, pointer-for, valid-bits, zone-with, frame-with, write-rows, Wrote, written, reader-reachable, read-rows, loss-flag, reading, leading-octets}
+use Rattle.bitstream.specs.Bitstream.{octets-for, bit-at, bit-place, pointer-for, valid-bits, zone-with, frame-with, write-rows, Wrote, written, reader-reachable, read-rows, loss-flag, next-reader, reading, leading-octets}
 use Rattle.bitstream.specs.Statements.{ReadBack, HasBits}
 use Rattle.bitstream.specs.declared.Writer.{Writer}
 use Rattle.bitstream.specs.declared.Reader.{Reader}
-use Rattle.bitstream.specs.declared.Reader.the-variants.{Last}
 use Rattle.bitstream.proofs.Answers.{write-refusal, read-refusal}
 use Rattle.bitstream.proofs.Sizes.{octets-fit, leading-some}
 use Rattle.bitstream.proofs.Zones.{length-zone, zone-bit}
@@ -85,7 +84,7 @@ module _ (s : BitSettings) (range : bits-in-range s ≡ true) (c n : ℕ) (bits 
   taken = bit-frame-taken s back length-frame right (pointer-used s settled n inside)
 
   said : (x : Reader) → reader-reachable s x ≡ true
-      → reading s x f ≡ record { refusal = 0; count = c; replay = 0; bits = n; lost = loss-flag s x c; reader = Last c }
+      → reading s x f ≡ record { refusal = 0; count = c; replay = 0; bits = n; lost = loss-flag s x c n; reader = next-reader s x c n }
   unfolding reading read-rows first
   said x reached =
       rw (range, reached, taken, back .count-back, back .replay-back, back .pointer-back, valid-pointer s settled n inside) refl

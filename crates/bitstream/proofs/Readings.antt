@@ -12,9 +12,8 @@ use Rattle.frames.specs.BitFrame.{bits-in-range, bit-frame-rows, bit-heading-ro
 use Rattle.frames.specs.declared.bits.BitSettings.{BitSettings}
 use Rattle.frames.specs.declared.Heading.{Heading}
 use Rattle.frames.proofs.Rows.{settled-once}
-use Rattle.bitstream.specs.Bitstream.{valid-bits, reader-reachable, read-rows, loss-flag, reading}
+use Rattle.bitstream.specs.Bitstream.{valid-bits, reader-reachable, read-rows, loss-flag, next-reader, reading}
 use Rattle.bitstream.specs.declared.Reader.{Reader}
-use Rattle.bitstream.specs.declared.Reader.the-variants.{Last}
 use Rattle.octets.proofs.Choices.{refusal-kept}
 
 -- a table of which no row holds
@@ -41,7 +40,7 @@ module _ (s : BitSettings) (x : Reader) (f : List ℕ) where
       ∙ settled-once (bits-in-range s) (bit-frame-rows s f) (pick (not (reader-reachable s x)) 10)
 
   pub read-done : (h : Heading) → h ≡ bit-heading s f → first (read-rows s x f) ≡ 0
-      → record { refusal = 0; count = h .count; replay = h .replay; bits = valid-bits s (h .pointer); lost = loss-flag s x (h .count); reader = Last (h .count) }
+      → record { refusal = 0; count = h .count; replay = h .replay; bits = valid-bits s (h .pointer); lost = loss-flag s x (h .count) (valid-bits s (h .pointer)); reader = next-reader s x (h .count) (valid-bits s (h .pointer)) }
       ≡ reading s x f
   unfolding reading bit-heading bit-heading-rows heading-of first
   read-done h e r = rw (e, readable s x f r .in-range, readable s x f r .sound, r) refl

@@ -97,16 +97,24 @@ written s w bits n frame =
 -- the same of a reader: there is no last count, or one that is on the wheel
 unfoldable pub reader-reachable : BitSettings → Reader → Bool
 reader-reachable s Fresh = true
-reader-reachable s (Last c) = ltb c (2 ^ count-width (s .link))
+reader-reachable s (Last c waiting) = ltb c (2 ^ count-width (s .link))
 
 -- what a frame to be read is refused for
 unfoldable pub read-rows : BitSettings → Reader → List ℕ → List Row
 read-rows s x f = row 1 (not (bits-in-range s)) ∷ row 10 (not (reader-reachable s x)) ∷ bit-frame-rows s f
 
--- the loss flag: there is a last count, and this frame's does not follow it
-unfoldable pub loss-flag : BitSettings → Reader → ℕ → Bool
-loss-flag s Fresh c = false
-loss-flag s (Last last) c = not (eqb c (next-count (count-width (s .link)) last))
+-- whether a loss is to be told: there is a last count and this frame's does not follow it, or one waits
+unfoldable pub untold : BitSettings → Reader → ℕ → Bool
+untold s Fresh c = false
+untold s (Last last waiting) c = or (not (eqb c (next-count (count-width (s .link)) last))) waiting
+
+-- the loss flag of a unit with n bits: fill alone has it clear
+unfoldable pub loss-flag : BitSettings → Reader → ℕ → ℕ → Bool
+loss-flag s x c n = and (untold s x c) (not (eqb n 0))
+
+-- the record after that unit: without bits the loss waits on
+unfoldable pub next-reader : BitSettings → Reader → ℕ → ℕ → Reader
+next-reader s x c n = Last c (and (untold s x c) (eqb n 0))
 
 -- a refusal alone, with the record as it was
 abbrev pub no-reading : ℕ → Reader → Reading
@@ -117,8 +125,9 @@ unfoldable pub reading : BitSettings → Reader → List ℕ → Reading
 reading s x f =
     let r : ℕ = first (read-rows s x f) in
     let c : ℕ = bit-count s f in
+    let n : ℕ = valid-bits s (bit-pointer s f) in
     pick (eqb r 0)
-    (record { refusal = 0; count = c; replay = bit-replay s f; bits = valid-bits s (bit-pointer s f); lost = loss-flag s x c; reader = Last c })
+    (record { refusal = 0; count = c; replay = bit-replay s f; bits = n; lost = loss-flag s x c n; reader = next-reader s x c n })
     (no-reading r x)
 
 -- the zone's leading octets that hold n bits, as few as do; none where the frame has another length or the zone fewer bits

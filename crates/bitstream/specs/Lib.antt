@@ -1,3 +1,4 @@
 pub mod Bitstream
+pub mod Loss
 pub mod Statements
 pub mod Passes

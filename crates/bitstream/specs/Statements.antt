@@ -2,21 +2,23 @@
 use mathlib.Core.Logic.{_↔_}
 use mathlib.Core.Path.{_≡_}
 use Prim.Native.Nat.{ℕ, _+_, _*_, _≤_, _<_}
-use mathlib.Core.List.{List}
+use mathlib.Core.List.{List, [], _∷_}
 use mathlib.Core.Bool.{true}
 use lib.ListN.{length, take}
 use Rattle.octets.specs.Basics.{AllOctets}
 use Rattle.frames.specs.Link.{zone-at, headers}
 use Rattle.frames.specs.BitFrame.{bits-in-range, bit-zone-of, bit-count, bit-replay, bit-pointer-word, most-bits}
 use Rattle.frames.specs.declared.bits.BitSettings.{BitSettings}
-use Rattle.bitstream.specs.Bitstream.{octets-for, bit-at, pointer-for, zone-with, begun, writer-reachable, written, reader-reachable, loss-flag, reading, leading-octets}
+use Rattle.bitstream.specs.Bitstream.{octets-for, bit-at, pointer-for, zone-with, begun, writer-reachable, written, reader-reachable, loss-flag, next-reader, reading, leading-octets}
+use Rattle.bitstream.specs.Loss.{BitUnit, since-bits, any-lost, units-after, BitsSaid, run-said}
 use Rattle.bitstream.specs.declared.Writer.{Writer}
 use Rattle.bitstream.specs.declared.Reader.{Reader}
 use Rattle.bitstream.specs.declared.Reader.the-variants.{Fresh, Last}
+use Rattle.bitstream.specs.declared.Reading.{Reading}
 
 -- a frame that was written with this count and n bits is read back: the count, the number of bits, and these bits
 pub record ReadBack (s : BitSettings) (x : Reader) (c n : ℕ) (bits f : List ℕ) : Type 0 where
-  pub said : reading s x f ≡ record { refusal = 0; count = c; replay = 0; bits = n; lost = loss-flag s x c; reader = Last c }
+  pub said : reading s x f ≡ record { refusal = 0; count = c; replay = 0; bits = n; lost = loss-flag s x c n; reader = next-reader s x c n }
   pub size : length (leading-octets s n f) ≡ octets-for n
   pub same-bits : (i : ℕ) → i < n → bit-at (leading-octets s n f) i ≡ bit-at bits i
 
@@ -30,6 +32,33 @@ pub record HasBits (s : BitSettings) (n : ℕ) (f : List ℕ) : Type 0 where
   pub same-bits : (i : ℕ) → i < n → bit-at (leading-octets s n f) i ≡ bit-at (bit-zone-of s f) i
   pub same-head : take (zone-at (s .link)) f ≡ headers (s .link) (bit-count s f) (bit-replay s f) (bit-pointer-word (pointer-for s n))
   pub same-again : (i : ℕ) → i < n → bit-at (zone-with s n (leading-octets s n f)) i ≡ bit-at (bit-zone-of s f) i
+
+-- what the answers of calls say of a run, each call with the record that the one before it left; and the record after them
+pub record RunRead : Type 0 where
+  pub said : List BitsSaid
+  pub reader : Reader
+
+-- what an answer says, the record apart
+abbrev pub as-said : Reading → BitsSaid
+as-said a = record { refusal = a .refusal; count = a .count; replay = a .replay; bits = a .bits; lost = a .lost }
+
+unfoldable pub run-read : BitSettings → Reader → List (List ℕ) → RunRead
+run-read s x [] = record { said = []; reader = x }
+run-read s x (f ∷ fs) =
+    let a : Reading = reading s x f in
+    let rest : RunRead = run-read s (a .reader) fs in
+    record { said = as-said a ∷ rest .said; reader = rest .reader }
+
+-- the record that stands for the units read, the newest first: its count, and whether any count since the last unit with bits did not follow
+unfoldable pub reader-for : List BitUnit → Reader
+reader-for [] = Fresh
+reader-for (u ∷ us) = Last (u .count) (any-lost (since-bits (u ∷ us)))
+
+-- From a fresh record, with nothing touched between calls, the calls say of every frame of any run what the rule gives, refused frames
+-- among them; and the record after them stands for the units read.
+pub record LossesWait : Type 0 where
+  pub said : (s : BitSettings) (fs : List (List ℕ)) → run-read s Fresh fs .said ≡ run-said s [] fs
+  pub left : (s : BitSettings) (fs : List (List ℕ)) → run-read s Fresh fs .reader ≡ reader-for (units-after s [] fs)
 
 -- the records that any calls lead to, refused or not, from the first on
 pub data WriterReached (s : BitSettings) : Writer → Type 0 where

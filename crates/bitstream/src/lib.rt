@@ -4,7 +4,7 @@ ghost use Prim.Native.Nat.{_≤_};
 ghost use Rattle.octets.specs.Basics.{first, over};
 ghost use Rattle.frames.specs.Link.{zone-at, next-count};
 ghost use Rattle.frames.specs.BitFrame.{most-width};
-ghost use Rattle.bitstream.specs.Bitstream.{octets-for, pointer-for, valid-bits, mixed, zone-with, begun, writer-reachable, write-rows, wrote, written, reader-reachable, loss-flag, no-reading, reading, leading-octets, Fits};
+ghost use Rattle.bitstream.specs.Bitstream.{octets-for, pointer-for, valid-bits, mixed, zone-with, begun, writer-reachable, write-rows, wrote, written, reader-reachable, untold, no-reading, reading, leading-octets, Fits};
 use frames::WHEEL;
 use frames::ZONE_AT;
 use frames::bits::ALL_VALID;
@@ -28,8 +28,8 @@ pub struct Written {
 pub enum Reader {
     // No frame yet.
     Fresh,
-    // The count of the last frame.
-    Last { count: u32 },
+    // The count of the last frame, and whether a loss waits for bits to be told with.
+    Last { count: u32, waiting: bool },
 }
 
 // What a frame says, or the number that it is refused for, with all else 0; and the reader after the call.
@@ -150,17 +150,20 @@ fn reader_reachable(s: BitSettings, x: Reader) -> bool
 {
     match x {
         Reader::Fresh => true,
-        Reader::Last { count } => count < WHEEL,
+        Reader::Last { count, .. } => count < WHEEL,
     }
 }
 
-// Whether there is a last count and this one does not follow it.
-fn loss_flag(s: BitSettings, x: Reader, count: u32) -> bool
-    ensures { λ r. ⌜ r ≡ loss-flag s x count ⌝ }
+// Whether a loss is to be told: there is a last count and this one does not follow it, or one waits.
+fn untold(s: BitSettings, x: Reader, count: u32) -> bool
+    ensures { λ r. ⌜ r ≡ untold s x count ⌝ }
 {
     match x {
         Reader::Fresh => false,
-        Reader::Last { count: last } => count != next_count(last),
+        Reader::Last {
+            count: last,
+            waiting,
+        } => (count != next_count(last)) | waiting,
     }
 }
 
@@ -192,7 +195,7 @@ fn refused(refusal: u8, x: Reader) -> Reading
     }
 }
 
-// Reads a frame: its count, its replay flag, how many bits it has, and the loss flag.
+// Reads a frame: its count, its replay flag, how many bits it has, and the loss flag, which waits for bits.
 pub fn read(s: BitSettings, x: Reader, frame: &[u8]) -> Reading
     ensures { λ r. ⌜ r ≡ reading s x (now (frame .entry)) ⌝ }
 {
@@ -206,13 +209,18 @@ pub fn read(s: BitSettings, x: Reader, frame: &[u8]) -> Reading
     if head.refusal != 0 {
         return refused(head.refusal, x);
     }
+    let bits = valid_bits(s, head.pointer);
+    let loss = untold(s, x, head.count);
     Reading {
         refusal: 0,
         count: head.count,
         replay: head.replay,
-        bits: valid_bits(s, head.pointer),
-        lost: loss_flag(s, x, head.count),
-        reader: Reader::Last { count: head.count },
+        bits,
+        lost: loss & (bits != 0),
+        reader: Reader::Last {
+            count: head.count,
+            waiting: loss & (bits == 0),
+        },
     }
 }
 

@@ -3,9 +3,10 @@
 use mathlib.Core.Logic.{_↔_}
 use mathlib.Core.Path.{_≡_, refl, sym, ap, _∙_}
 use Prim.Native.Nat.{ℕ, _+_, _-_, _*_, _/_, _%_, _^_, _≤_, _<_}
-use native.Mathlib.Nat.{add-comm, mod-add-mod, mod-lt, mod-eq-of-lt, zero-mod, div-add-mod', add-mul-mod-self-right, add-mul}
+use native.Mathlib.Nat.{add-comm, mod-add-mod, mod-lt, mod-eq-of-lt, mod-self, zero-mod, div-add-mod', add-mul-mod-self-right, add-mul}
 use native.Mathlib.Omega.{arith}
-use lib.Pow.{pow-pos, mod-mod-pow}
+use lib.Pow.{pow-pos, pow-mono, mod-mod-pow}
+use Rattle.octets.proofs.Choices.{split}
 use Rattle.words.specs.Fields.{read}
 use Rattle.words.proofs.Fields.{field-lt}
 use Rattle.frames.specs.Link.{count-place, count-width, next-count, missing}
@@ -65,6 +66,17 @@ pub follows-before : (width c : ℕ) → c < 2 ^ width → missing width (count-
 unfolding next-count
 follows-before width c small =
     none-missing width (count-before width c) c small .1 (sym (after-missing width 0 c ∙ mod-eq-of-lt small))
+
+-- no count follows itself, where the wheel has more than one place
+pub follows-another : (width c : ℕ) → 1 ≤ width → c < 2 ^ width → next-count width c ≡ c → ⊥
+unfolding next-count
+follows-another width c wide small e =
+    split (2 ^ width) (c + 1)
+    (λ h.
+    let last : c + 1 ≡ 2 ^ width = omega arith in
+    let two : 2 ^ 1 ≤ 2 ^ width = pow-mono wide in
+    omega (arith, ap (λ (k : ℕ). k % 2 ^ width) last, mod-self (2 ^ width)))
+    (λ h. omega (arith, mod-eq-of-lt h))
 
 -- a count that is read is on the wheel
 pub count-lt : (l : Link) (word : ℕ) → read count-place word < 2 ^ count-width l

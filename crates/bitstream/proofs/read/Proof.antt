@@ -8,7 +8,7 @@ use borrow.Author.Tests.{not-false}
 use Rattle.octets.specs.Basics.{first}
 use Rattle.frames.specs.BitFrame.{bits-in-range}
 use Rattle.frames.proofs.bits.Settled.{bits-settled}
-use Rattle.bitstream.specs.Bitstream.{reader-reachable, read-rows}
+use Rattle.bitstream.specs.Bitstream.{reader-reachable, read-rows, loss-flag, next-reader}
 use Rattle.bitstream.proofs.Answers.{read-refused}
 use Rattle.bitstream.proofs.Readings.{refusal-by, read-done}
 use Rattle.bitstream.proofs.read.Statement.{statement}
@@ -61,11 +61,12 @@ valid-bits-requires c κs =
     bits-settled (start at .args .s) (in-range at) .width-most
 
 returns-4 : tie.Need-returns-4
+unfolding loss-flag next-reader
 returns-4 c =
     let at-if3 = c .before .before in
     let at = at-if3 .before .before in
     let a = start at .args in
-    rw (c .loss-flag .ensures, c .before .valid-bits .ensures)
+    rw (c .untold .ensures, c .before .valid-bits .ensures)
     (read-done (a .s) (a .x) (a .frame .now) (at .read-head .result) (at .read-head .ensures) (sym (refusal at) ∙ at-if3 .if3 .left))
 
 pub read-spec : {M : Type 1} → statement M
