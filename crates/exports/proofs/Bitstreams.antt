@@ -30,13 +30,13 @@ module _ (settings numbers bits : List ℕ) (n : ℕ) (frame : List ℕ) where
   write-done s w r t s-is w-is e k = rw (t, ← s-is, ← w-is, ← e, k)
 
 module _ (settings numbers frame answer : List ℕ) where
-  pub read-short : bits-short (length settings) (length numbers) 2 (length answer) 6 ≡ true
+  pub read-short : bits-short (length settings) (length numbers) 3 (length answer) 6 ≡ true
       → left 2 numbers [] answer ≡ read-leaves settings numbers frame answer
   unfolding read-leaves
   read-short t = rw t
 
   pub read-done : (s : BitSettings) (x : Reader) (r : Reading) {refusal : ℕ} {octets state said numbers′ answer′ : List ℕ}
-      → bits-short (length settings) (length numbers) 2 (length answer) 6 ≡ false → s ≡ bit-settings-of settings → x ≡ reader-of numbers
+      → bits-short (length settings) (length numbers) 3 (length answer) 6 ≡ false → s ≡ bit-settings-of settings → x ≡ reader-of numbers
       → r ≡ reading s x frame → octets ≡ leading-octets s (r .bits) frame → state ≡ reader-numbers (r .reader)
       → ((s : BitSettings) (f : List ℕ) → length octets ≡ length (leading-octets s (r .bits) f) → said ≡ r .refusal ∷ read-numbers s f r)
       → left refusal numbers′ [] answer′ ≡ leaving numbers state answer said

@@ -93,10 +93,11 @@ module _ (array : List ℕ) where
   unfolding writer-of over
   writer-again w h k = rw (laid-there (w .count ∷ []) h, uncut k) refl
 
-  reader-again : (x : Reader) → 2 ≤ length array → ReaderWords x → reader-of (told array (reader-numbers x)) ≡ x
+  reader-again : (x : Reader) → 3 ≤ length array → ReaderWords x → reader-of (told array (reader-numbers x)) ≡ x
   unfolding reader-with reader-numbers over
-  reader-again reader.Fresh h w = rw (laid-there (0 ∷ 0 ∷ []) h) refl
-  reader-again (reader.Last count) h w = rw (laid-there (1 ∷ count ∷ []) h, uncut w) refl
+  reader-again reader.Fresh h w = rw (laid-there (0 ∷ 0 ∷ 0 ∷ []) h) refl
+  reader-again (reader.Last count true) h w = rw (laid-there (1 ∷ count ∷ 1 ∷ []) h, uncut w) refl
+  reader-again (reader.Last count false) h w = rw (laid-there (1 ∷ count ∷ 0 ∷ []) h, uncut w) refl
 
   pub table-again : (t : Table) → 65 ≤ length array → TableWords t → table-of (told array (table-numbers t)) ≡ t
   unfolding table-of table-numbers over

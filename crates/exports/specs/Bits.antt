@@ -1,10 +1,10 @@
 -- The bitstream channel in the numbers of the C interface.
 use Prim.Native.Nat.{ℕ}
 use mathlib.Core.List.{List, [], _∷_}
-use mathlib.Core.Bool.{Bool, not}
+use mathlib.Core.Bool.{Bool, false}
 use lib.ListN.{length, getD}
-use lib.Dec.{ltb, eqb}
-use Rattle.octets.specs.Basics.{pick, or}
+use lib.Dec.{leb, ltb, eqb}
+use Rattle.octets.specs.Basics.{pick, and, or}
 use Rattle.frames.specs.Link.{zone-at}
 use Rattle.frames.specs.declared.bits.BitSettings.{BitSettings}
 use Rattle.bitstream.specs.Bitstream.{Wrote, written, reading, leading-octets}
@@ -48,22 +48,24 @@ write-leaves settings numbers bits n frame =
 
 -- ---- reading
 
--- the record: whether a frame was read, and its count
+-- the record: whether a frame was read, its count, and whether a loss waits
 unfoldable pub reader-numbers : Reader → List ℕ
-reader-numbers Fresh = 0 ∷ 0 ∷ []
-reader-numbers (Last count) = 1 ∷ count ∷ []
+reader-numbers Fresh = 0 ∷ 0 ∷ 0 ∷ []
+reader-numbers (Last count waiting) = 1 ∷ count ∷ bit waiting ∷ []
 
 -- a record that no call reaches: its count is off the wheel
 abbrev pub unread : Reader
-unread = Last 4294967295
+unread = Last 4294967295 false
 
--- the record with these numbers: such a one where a count is not 0 that is not used, and for any other kind
-unfoldable pub reader-with : ℕ → ℕ → Reader
-reader-with kind last =
-    pick (eqb kind 1) (Last last) (pick (not (eqb last 0)) unread (pick (eqb kind 0) Fresh unread))
+-- the record with these numbers: such a one for any other kind, for a flag above 1, and where a count or a flag is not 0 before the first frame
+unfoldable pub reader-with : ℕ → ℕ → ℕ → Reader
+reader-with kind last waiting =
+    pick (and (eqb kind 1) (leb waiting 1))
+    (Last last (eqb waiting 1))
+    (pick (and (eqb kind 0) (and (eqb last 0) (eqb waiting 0))) Fresh unread)
 
 abbrev pub reader-of : List ℕ → Reader
-reader-of ns = reader-with (getD ns 0 0) (count-of (getD ns 1 0))
+reader-of ns = reader-with (getD ns 0 0) (count-of (getD ns 1 0)) (getD ns 2 0)
 
 -- the count, the replay flag, the loss flag, the number of bits; and where the octets that hold them lie in the frame
 unfoldable pub read-numbers : BitSettings → List ℕ → Reading → List ℕ
@@ -80,6 +82,6 @@ unfoldable pub read-leaves : List ℕ → List ℕ → List ℕ → List ℕ →
 read-leaves settings numbers frame answer =
     let s : BitSettings = bit-settings-of settings in
     let a : Reading = reading s (reader-of numbers) frame in
-    pick (bits-short (length settings) (length numbers) 2 (length answer) 6)
+    pick (bits-short (length settings) (length numbers) 3 (length answer) 6)
     (left 2 numbers [] answer)
     (left (a .refusal) (kept (a .refusal) numbers (reader-numbers (a .reader))) [] (told answer (read-numbers s frame a)))

@@ -60,7 +60,7 @@ JudgeWords (Faulty tally at) = Word tally × Word at
 
 abbrev pub ReaderWords : Reader → Type 0
 ReaderWords reader.Fresh = Unit {0}
-ReaderWords (reader.Last count) = Word count
+ReaderWords (reader.Last count waiting) = Word count
 
 -- a table's entries, each an APID of 16 bits and a destination of 8
 abbrev pub TableWords : Table → Type 0
@@ -72,7 +72,7 @@ pub record StatedAgain (array : List ℕ) : Type 0 where
   pub extractor : (x : Extractor) → 4 ≤ length array → ExtractorWords x → extractor-of (told array (extractor-numbers x)) ≡ x
   pub judge : (j : Judge) → 4 ≤ length array → JudgeWords j → judge-of (told array (judge-numbers j)) ≡ j
   pub writer : (w : Writer) → 1 ≤ length array → Word (w .count) → writer-of (told array (w .count ∷ [])) ≡ w
-  pub reader : (x : Reader) → 2 ≤ length array → ReaderWords x → reader-of (told array (reader-numbers x)) ≡ x
+  pub reader : (x : Reader) → 3 ≤ length array → ReaderWords x → reader-of (told array (reader-numbers x)) ≡ x
   pub table : (t : Table) → 65 ≤ length array → TableWords t → table-of (told array (table-numbers t)) ≡ t
 
 -- A list with a destination above 255, in whichever entry, is told by `wide`. A load that is not refused leaves the list's own numbers behind their count, and zeros.

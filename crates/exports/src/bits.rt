@@ -30,7 +30,7 @@ const BIT_SETTINGS_ENTRIES: usize = 5;
 
 const WRITER_ENTRIES: usize = 1;
 
-const READER_ENTRIES: usize = 2;
+const READER_ENTRIES: usize = 3;
 
 const BITS_ENTRIES: usize = 6;
 
@@ -87,20 +87,23 @@ pub extern "C" fn itz_bits_write(
 fn unread() -> Reader
     ensures { λ r. ⌜ r ≡ unread ⌝ }
 {
-    Reader::Last { count: MOST_COUNT }
+    Reader::Last {
+        count: MOST_COUNT,
+        waiting: false,
+    }
 }
 
-// The record with these numbers; a last count that is not used is 0.
-fn reader_with(kind: u64, last: u32) -> Reader
-    ensures { λ r. ⌜ r ≡ reader-with kind last ⌝ }
+// The record with these numbers; before the first frame there is no last count, and nothing waits.
+fn reader_with(kind: u64, last: u32, waiting: u64) -> Reader
+    ensures { λ r. ⌜ r ≡ reader-with kind last waiting ⌝ }
 {
-    if kind == 1 {
-        return Reader::Last { count: last };
+    if (kind == 1) & (waiting <= 1) {
+        return Reader::Last {
+            count: last,
+            waiting: waiting == 1,
+        };
     }
-    if last != 0 {
-        return unread();
-    }
-    if kind == 0 {
+    if (kind == 0) & ((last == 0) & (waiting == 0)) {
         return Reader::Fresh;
     }
     unread()
@@ -110,15 +113,16 @@ fn reader_of(numbers: &[u64]) -> Reader
     ensures { λ r. ⌜ r ≡ reader-of (now (numbers .entry)) ⌝ }
 {
     let last = count_of(entry(numbers, 1));
-    reader_with(entry(numbers, 0), last)
+    let waiting = entry(numbers, 2);
+    reader_with(entry(numbers, 0), last, waiting)
 }
 
-fn reader_numbers(x: Reader) -> [u64; 2]
+fn reader_numbers(x: Reader) -> [u64; 3]
     ensures { λ r. ⌜ r ≡ reader-numbers x ⌝ }
 {
     match x {
-        Reader::Fresh => [0; 2],
-        Reader::Last { count } => [1, count as u64],
+        Reader::Fresh => [0; 3],
+        Reader::Last { count, waiting } => [1, count as u64, flag(waiting)],
     }
 }
 

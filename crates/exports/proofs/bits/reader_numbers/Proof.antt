@@ -12,7 +12,7 @@ returns c = rw (c .enum-told .given .1) refl
 
 returns-2 : tie.Need-returns-2
 unfolding reader-numbers
-returns-2 c = rw (c .before .x .given .1) refl
+returns-2 c = rw (c .flag .ensures, c .before .before .x .given .1) refl
 
 pub reader-numbers-spec : {M : Type 1} → statement M
-reader-numbers-spec = tie.close (tie.spec (λ c. search needs) (λ c. search needs) (λ c. search needs) returns returns-2)
+reader-numbers-spec = tie.close (tie.spec (λ c. search needs) (λ c. search needs) (λ c. search needs) (λ c κs. search needs) returns returns-2)
