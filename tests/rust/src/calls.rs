@@ -33,7 +33,7 @@ pub const SHOWN: usize = 3;
 pub const JUDGE: usize = 4;
 pub const VERDICT: usize = 2;
 pub const BIT_WRITER: usize = 1;
-pub const BIT_READER: usize = 2;
+pub const BIT_READER: usize = 3;
 pub const BITS: usize = 6;
 pub const RELAY: usize = 65;
 pub const ROUTED: usize = 2;
@@ -360,7 +360,7 @@ impl Calls for Reference {
                 let settings = read_bit_settings(settings)?;
                 let mut reader = read_bit_reader(record);
                 let bits = bitstream::read(&settings, &mut reader, frame)?;
-                *record = [1, bits.count.into()];
+                *record = [1, bits.count.into(), reader.waiting.into()];
                 let size = bits.octets.len();
                 Ok([
                     bits.count.into(),
@@ -579,9 +579,10 @@ fn judge_numbers(record: &judge::Record) -> [u64; JUDGE] {
 /// Numbers that stand for no record are read as one that no call leaves.
 fn read_bit_reader(record: &[u64; BIT_READER]) -> Reader {
     match *record {
-        [0, 0] => Reader { last: None },
-        [1, last] => Reader { last: Some(fitted(last)) },
-        _ => Reader { last: Some(u32::MAX) },
+        [0, 0, 0] => Reader::START,
+        [1, last, 0] => Reader { last: Some(fitted(last)), waiting: false },
+        [1, last, 1] => Reader { last: Some(fitted(last)), waiting: true },
+        _ => Reader { last: Some(u32::MAX), waiting: false },
     }
 }
 

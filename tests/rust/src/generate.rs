@@ -1,7 +1,9 @@
-//! Generators: settings, packets, runs that conform, relay tables, and ways to spoil them and the
-//! trailers of frames.
+//! Generators: settings, packets, runs that conform, relay tables, and ways to spoil them, frames of
+//! bits and the trailers of frames.
 
-use crate::calls::{BIT_SETTINGS, EXTRACTOR, JUDGE, MUX, RELAY, SETTINGS, SPACE_HEADER};
+use crate::calls::{
+    BIT_READER, BIT_SETTINGS, EXTRACTOR, JUDGE, MUX, RELAY, SETTINGS, SPACE_HEADER,
+};
 use crate::random::Random;
 use crate::reference::frame::{self, Settings, HEAD, IDLE_ZONE, NO_START, WHEEL};
 use crate::reference::multiplexer;
@@ -434,6 +436,32 @@ pub fn spoil_trailer(random: &mut Random, frame: &mut Vec<u8>) {
     }
 }
 
+/// Spoils a frame of bits with a zone of this width: in its count, in another way, in both or in
+/// neither. Then its trailer, if it has one, is made right again, or spoilt too, or left.
+pub fn spoil_bits(random: &mut Random, width: usize, trailer: bool, frame: &mut Vec<u8>) {
+    if random.once_in(2) {
+        set_count(frame, random.any() as u32);
+    }
+    match random.within(1, 8) {
+        1..=3 => flip(random, frame, 0, HEAD),
+        4 | 5 => {
+            let edge = 8 * width as u16;
+            let pointer = random.pick(&[edge - 2, edge - 1, edge, 16_381, 16_382, 16_383]);
+            set_pointer(frame, pointer);
+        }
+        6 => frame.push(0),
+        7 => frame.truncate(frame.len().saturating_sub(1)),
+        _ => {}
+    }
+    if trailer {
+        match random.within(1, 5) {
+            1 => {}
+            2 | 3 => spoil_trailer(random, frame),
+            _ => seal(frame),
+        }
+    }
+}
+
 /// Changes the first of sixteen bits in a row, and any of the others.
 fn burst(random: &mut Random, frame: &mut [u8]) {
     let first = random.within(0, 8 * frame.len() - 16);
@@ -688,6 +716,24 @@ pub fn judge_record(random: &mut Random, settings: &Settings, store: usize) -> [
             number(random, &[0, 1]),
             number(random, &[0, 1]),
         ],
+    }
+}
+
+/// A record of a reader of bits, reachable or not, before a frame of this count or any other.
+pub fn bit_reader_record(random: &mut Random, count: u64) -> [u64; BIT_READER] {
+    let (any, wheel) = (random.any(), u64::from(WHEEL));
+    let before = count.wrapping_sub(1) % wheel;
+    let last = number(random, &[before, before, count, any % wheel, wheel - 1]);
+    let waiting = random.pick(&[0, 1]);
+    // What is no flag, at times what looks like one in fewer bits.
+    let alike = waiting + random.pick(&[2, 1 << 8, 1 << 16, 1 << 32]);
+    match random.within(0, 9) {
+        0 => [0, 0, 0],
+        1..=5 => [1, last, waiting],
+        6 => [1, last, number(random, &[2, 3, alike, alike, u64::MAX])],
+        7 => [0, 0, number(random, &[1, 1, 2, alike])],
+        8 => [number(random, &[0, 1, 2, 3]), last, waiting],
+        _ => [number(random, &[0, 1, 2]), number(random, &[0, 1]), number(random, &[0, 1, 2])],
     }
 }
 

@@ -93,7 +93,7 @@ pub fn arguments(call: &str, refusals: &[u64], trailer: bool) -> Arguments {
         "judge_frame" => (channel, vec![1, 5, 4, 0], frame, vec![0; 64], 0),
         "judge_close" => (channel, vec![1, 5, 4, 0], vec![], vec![0; 64], calls::VERDICT),
         "bits_write" => ([bit_channel, vec![13]].concat(), vec![5], vec![0xA1; 2], written, 0),
-        "bits_read" => (bit_channel, vec![1, 4], frame, vec![], calls::BITS),
+        "bits_read" => (bit_channel, vec![1, 4, 1], frame, vec![], calls::BITS),
         "relay_load" => (vec![6, 1, 5, 255], table, vec![], vec![], 0),
         "relay_route" => (vec![64], table, space, vec![0; 2], calls::ROUTED),
         _ => panic!("no call {call}"),

@@ -608,14 +608,17 @@ fn bits(pair: &mut Pair, random: &mut Random) -> Result<(), Difference> {
     if random.once_in(2) {
         writer[0] = u64::from(WHEEL) - random.within(0, 4) as u64;
     }
-    let mut reader = match random.within(1, 6) {
-        1 => vec![1, writer[0]],
-        2 => vec![random.any() % 3, random.pick(&[0, 1, u64::from(WHEEL), u64::MAX])],
-        _ => vec![0, 0],
+    let record = if random.once_in(6) {
+        generate::bit_reader_record(random, writer[0]).to_vec()
+    } else {
+        vec![0; calls::BIT_READER]
     };
-    for _ in 0..random.within(1, 12) {
+    let mut reader = Lent { record, buffer: vec![], answer: vec![] };
+    let long_fill = random.once_in(2);
+    for _ in 0..random.within(1, 24) {
         let number = match random.within(1, 6) {
             1 => 0,
+            2..=4 if long_fill => 0,
             2 => 8 * width,
             3 => 8 * width - 1,
             4 => 8 * width + random.within(0, 2),
@@ -630,47 +633,63 @@ fn bits(pair: &mut Pair, random: &mut Random) -> Result<(), Difference> {
             settings
         };
         let n = if random.once_in(50) { u64::MAX } else { number as u64 };
+        let count = writer[0];
         let mut lent = Lent { record: writer, buffer: random.octets(buffer), answer: vec![] };
         pair.both("bits_write", &numbers, &offered, &mut lent, |calls, lent| {
             calls.bits_write(&numbers, &mut lent.record, &offered, n, &mut lent.buffer)
         })?;
         writer = lent.record;
 
-        // The frame is read again, at times spoilt, and at times not at all.
         let mut frame = lent.buffer;
         frame.truncate(length);
-        match random.within(1, 8) {
+        match random.within(1, 9) {
+            // It is lost; or a spoilt one comes before it, or in its place; or it comes twice.
             1 => continue,
-            2 => {
-                let place = random.within(0, frame.len().min(HEAD + 1)).saturating_sub(1);
-                if let Some(octet) = frame.get_mut(place) {
-                    *octet ^= 1 << random.within(0, 7);
-                }
+            2 | 3 => {
+                let mut spoilt = frame.clone();
+                generate::spoil_bits(random, width, trailer, &mut spoilt);
+                read_bits(pair, random, &numbers, &mut reader, &spoilt)?;
             }
-            3 if frame.len() >= HEAD => {
-                let edge = 8 * width as u64;
-                let pointer = random.pick(&[edge - 2, edge - 1, edge, 16_381, 16_382, 16_383]);
-                frame[6..HEAD].copy_from_slice(&(pointer as u16).to_be_bytes());
+            4 | 5 => generate::spoil_bits(random, width, trailer, &mut frame),
+            6 if random.once_in(2) => {
+                read_bits(pair, random, &numbers, &mut reader, &frame)?;
             }
-            4 if random.once_in(3) => frame.push(0),
             _ => {}
         }
-        if trailer {
-            match random.within(1, 5) {
-                1 => {}
-                2 => generate::spoil_trailer(random, &mut frame),
-                _ => generate::seal(&mut frame),
-            }
+        read_bits(pair, random, &numbers, &mut reader, &frame)?;
+        if random.once_in(4) {
+            // Another reader, of any record, reads it too.
+            let record = generate::bit_reader_record(random, count).to_vec();
+            let mut other = Lent { record, buffer: vec![], answer: vec![] };
+            read_bits(pair, random, &numbers, &mut other, &frame)?;
         }
-        let answer = answer(random, calls::BITS);
-        let mut lent = Lent { record: reader, buffer: vec![], answer };
-        let refusal = pair.both("bits_read", &numbers, &frame, &mut lent, |calls, lent| {
-            calls.bits_read(&numbers, &mut lent.record, &frame, &mut lent.answer)
-        })?;
-        reader = lent.record;
-        if refusal == 0 {
-            pair.note("loss flag", lent.answer[2]);
-        }
+    }
+    Ok(())
+}
+
+/// Reads a frame of bits on both sides, and notes the losses that it meets.
+fn read_bits(
+    pair: &mut Pair,
+    random: &mut Random,
+    numbers: &[u64],
+    lent: &mut Lent,
+    frame: &[u8],
+) -> Result<(), Difference> {
+    let before = lent.record.clone();
+    lent.answer = answer(random, calls::BITS);
+    let refusal = pair.both("bits_read", numbers, frame, lent, |calls, lent| {
+        calls.bits_read(numbers, &mut lent.record, frame, &mut lent.answer)
+    })?;
+    if refusal == 0 {
+        let (count, number) = (lent.answer[0], lent.answer[3]);
+        pair.note("loss flag", lent.answer[2]);
+        pair.note("loss waits", lent.record[2]);
+        // 1 is a loss of this count, 2 one that waited, 3 both.
+        let follows = before[0] == 0 || count == (before[1] + 1) % u64::from(WHEEL);
+        let loss = u64::from(!follows) + 2 * before[2];
+        pair.note(if number == 0 { "loss in fill" } else { "loss with bits" }, loss);
+    } else if before[2] == 1 {
+        pair.note("loss waits at refusal", refusal);
     }
     Ok(())
 }
@@ -922,7 +941,7 @@ fn short_arrays(pair: &mut Pair, random: &mut Random) -> Result<(), Difference> 
         pair.both("bits_write", &numbers, &packet, &mut lent, |calls, lent| {
             calls.bits_write(&numbers, &mut lent.record, &packet, 5, &mut lent.buffer)
         })?;
-        let (numbers, mut lent) = all(random, &bit_settings, &[0, 0], calls::BITS);
+        let (numbers, mut lent) = all(random, &bit_settings, &[0, 0, 0], calls::BITS);
         pair.both("bits_read", &numbers, &frame, &mut lent, |calls, lent| {
             calls.bits_read(&numbers, &mut lent.record, &frame, &mut lent.answer)
         })?;

@@ -330,7 +330,7 @@ fn bits() {
     assert_eq!(bitstream::write(&settings, &mut writer, &[], 0, &mut frame[..10]), Ok(()));
 
     // A full zone says 16,383: the pointer 15 of its last bit is refused.
-    let mut reader = Reader { last: Some(3) };
+    let mut reader = Reader { last: Some(3), waiting: false };
     let mut read = |pointer: u16| {
         let mut frame = [0x50, 0x83, 0, 0, 4, 0x80, 0, 0, 1, 2];
         frame[6..8].copy_from_slice(&pointer.to_be_bytes());
@@ -341,8 +341,8 @@ fn bits() {
     assert_eq!(read(15), Err(Refusal::Pointer));
     assert_eq!(read(16_381), Err(Refusal::Pointer));
     assert_eq!(read(0x4000), Err(Refusal::Spare));
-    // The same count again does not follow, for a zone of fill too.
-    assert_eq!(read(16_382), Ok((0, 0, true, true)));
+    // The same count again does not follow, of which a zone of fill says nothing.
+    assert_eq!(read(16_382), Ok((0, 0, true, false)));
     assert_eq!(read(16_383), Ok((16, 2, true, true)));
     assert_eq!(read(7), Ok((8, 1, true, true)));
     assert_eq!(read(8), Ok((9, 2, true, true)));
@@ -419,10 +419,56 @@ fn numbers_that_are_no_record() {
         assert_eq!(Reference.mux_flush(&settings, &mut after, &mut [0; 18], &mut [0]), 10);
         assert_eq!(after, record);
     }
-    for record in [[0, 1], [1, great], [2, 0], [u64::MAX, 0]] {
-        let mut after = record;
-        assert_eq!(Reference.bits_read(&bit_settings, &mut after, &frame, &mut [0; 6]), 10);
-        assert_eq!(after, record);
+    for record in [
+        [0, 1, 0],
+        [0, 0, 1],
+        [0, 4, 1],
+        [0, 0, 2],
+        [0, 0, great],
+        [1, 4, 2],
+        [1, 4, 3],
+        [1, 4, 256],
+        [1, 4, great],
+        [1, 4, great + 1],
+        [1, 4, u64::MAX],
+        [1, 1 << 24, 0],
+        [1, 1 << 24, 1],
+        [1, great, 0],
+        [1, great + 4, 1],
+        [1, u64::MAX, 0],
+        [2, 0, 0],
+        [2, 4, 1],
+        [1 << 8, 0, 0],
+        [great + 1, 4, 1],
+        [u64::MAX, 0, 0],
+    ] {
+        let (mut after, mut answer) = (record, [7; 6]);
+        let refusal = Reference.bits_read(&bit_settings, &mut after, &frame, &mut answer);
+        assert_eq!((refusal, after, answer), (10, record, [0; 6]));
+    }
+}
+
+/// What a read makes of a record of a reader of bits: refusal 10 or not.
+#[test]
+fn bit_reader_records() {
+    let settings =
+        bitstream::Settings { spacecraft: 66, channel: 3, width: 10, fill: 0, trailer: false };
+    let frame = [&[0x50, 0x83, 0, 0, 5, 0, 0, 0][..], &[0; 10]].concat();
+    let read = |last, waiting| {
+        let mut reader = Reader { last, waiting };
+        bitstream::read(&settings, &mut reader, &frame).map(|bits| bits.loss)
+    };
+    let last = (1 << 24) - 1;
+    assert_eq!(read(None, false), Ok(false));
+    assert_eq!(read(Some(4), false), Ok(false));
+    assert_eq!(read(Some(4), true), Ok(true));
+    assert_eq!(read(Some(0), true), Ok(true));
+    assert_eq!(read(Some(last), false), Ok(true));
+    assert_eq!(read(Some(last), true), Ok(true));
+    assert_eq!(read(None, true), Err(Refusal::Record));
+    for waiting in [false, true] {
+        assert_eq!(read(Some(last + 1), waiting), Err(Refusal::Record));
+        assert_eq!(read(Some(u32::MAX), waiting), Err(Refusal::Record));
     }
 }
 
@@ -470,4 +516,14 @@ fn short_arrays() {
     assert_eq!(answer, [0; 2]);
     assert_eq!(Reference.judge_frame(&[66, 3, 10, 64, 0, 0], &mut record, &mut [0; 64], &[]), 0);
     assert_eq!(record, [2, 1, 0, 0]);
+
+    // A reader of bits has three numbers.
+    let (mut record, mut answer) = ([9; 3], [7; 6]);
+    let settings = [66, 63, 10, 0, 0];
+    for size in 0..3 {
+        let refusal = Reference.bits_read(&settings, &mut record[..size], &[], &mut answer);
+        assert_eq!((refusal, record, answer), (2, [9; 3], [7; 6]));
+    }
+    assert_eq!(Reference.bits_read(&settings, &mut record, &[], &mut answer), 1);
+    assert_eq!((record, answer), ([9; 3], [0; 6]));
 }

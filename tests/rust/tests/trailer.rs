@@ -316,7 +316,7 @@ fn steps_do_not_look_at_the_trailer() {
 fn bits() {
     let settings =
         bitstream::Settings { spacecraft: 66, channel: 3, width: 2, fill: 0x55, trailer: true };
-    let (mut writer, mut reader) = (Writer { count: 4 }, Reader { last: Some(3) });
+    let (mut writer, mut reader) = (Writer { count: 4 }, Reader { last: Some(3), waiting: false });
     let before = [0x50, 0x83, 0, 0, 4, 0, 0, 2, 0b0111_0101, 0x55];
     for size in [0, 10, 11] {
         let mut frame = [0x77; 13];
@@ -375,7 +375,7 @@ fn the_number_of_the_setting() {
         let mut settings = bit_channel;
         settings[4] = number;
         assert_eq!(
-            Reference.bits_read(&settings, &mut [0; 2], &FIRST, &mut [7; 6]),
+            Reference.bits_read(&settings, &mut [0; 3], &FIRST, &mut [7; 6]),
             expected,
             "{number}"
         );
@@ -385,10 +385,10 @@ fn the_number_of_the_setting() {
     let mut answer = [7; 6];
     let wrong = [256, 63, 0, 0, 256];
     assert_eq!(Reference.extractor_enter(&wrong, &mut [9; 4], &[], &[], &mut answer), 2);
-    assert_eq!(Reference.bits_read(&wrong[..4], &mut [9; 2], &[], &mut answer), 2);
+    assert_eq!(Reference.bits_read(&wrong[..4], &mut [9; 3], &[], &mut answer), 2);
     assert_eq!(answer, [7; 6]);
     // Bits start at octet 8 with a trailer too.
-    assert_eq!(Reference.bits_read(&bit_channel, &mut [0; 2], &FIRST, &mut answer), 0);
+    assert_eq!(Reference.bits_read(&bit_channel, &mut [0; 3], &FIRST, &mut answer), 0);
     assert_eq!(answer, [0, 0, 0, 1, 8, 1]);
 }
 

@@ -56,14 +56,26 @@ impl Writer {
     pub const START: Writer = Writer { count: 0 };
 }
 
-/// Where a reader stands: the count of its last frame.
+/// Where a reader stands: the count of its last frame, and whether a loss waits for bits.
 #[derive(Clone, Copy, Debug, PartialEq, Eq)]
 pub struct Reader {
     pub last: Option<u32>,
+    /// A count since the last unit with bits did not follow.
+    pub waiting: bool,
 }
 
 impl Reader {
-    pub const START: Reader = Reader { last: None };
+    pub const START: Reader = Reader { last: None, waiting: false };
+
+    fn check(&self) -> Result<(), Refusal> {
+        let reachable = self.last.map_or(!self.waiting, |last| last < WHEEL);
+        require(reachable, Refusal::Record)
+    }
+
+    /// Whether a frame of this count follows the last one; the first frame does.
+    fn is_followed_by(&self, count: u32) -> bool {
+        self.last.map_or(true, |last| frame::missing(last, count) == 0)
+    }
 }
 
 /// What a frame of bits holds.
@@ -71,7 +83,8 @@ impl Reader {
 pub struct Bits<'a> {
     pub count: u32,
     pub replay: bool,
-    /// This frame's count does not follow the last one.
+    /// There are bits, and a count since the last unit with bits did not follow, this one's
+    /// included.
     pub loss: bool,
     /// The number of valid bits.
     pub number: usize,
@@ -132,7 +145,7 @@ pub fn read<'a>(
     frame: &'a [u8],
 ) -> Result<Bits<'a>, Refusal> {
     settings.check()?;
-    require(reader.last.map_or(true, |last| last < WHEEL), Refusal::Record)?;
+    reader.check()?;
     require(frame.len() == settings.frame_length(), Refusal::Length)?;
     require(!settings.trailer || trailer::is_right(frame), Refusal::Trailer)?;
     let (count, replay) = read_primary(settings.spacecraft, settings.channel, frame)?;
@@ -144,8 +157,9 @@ pub fn read<'a>(
         _ => usize::from(word) + 1,
     };
     require(word >= NO_BITS || number < settings.bits(), Refusal::Pointer)?;
-    let loss = reader.last.map_or(false, |last| frame::missing(last, count) != 0);
-    reader.last = Some(count);
+    let lost = reader.waiting || !reader.is_followed_by(count);
+    let (loss, waiting) = if number == 0 { (false, lost) } else { (lost, false) };
+    *reader = Reader { last: Some(count), waiting };
     let octets = &frame[HEAD..HEAD + octets_for(number)];
     Ok(Bits { count, replay, loss, number, octets })
 }
