@@ -1,13 +1,14 @@
 //! Whole frames and whole runs, read a second way.
 //!
-//! Here document 01's rules, with document 02's trailers, are taken over lists of
-//! octets, a frame at a time and a run at a time, with no record, store or walk;
-//! and the reference is held against them.
+//! Here document 01's rules, with document 02's trailers and its loss flag, are
+//! taken over lists of octets, a frame at a time and a run at a time, with no
+//! record, store or walk; and the reference is held against them.
 
 use std::collections::BTreeMap;
 
 use itzahuemo_reference::generate;
 use itzahuemo_reference::random::Random;
+use itzahuemo_reference::reference::bitstream::{self, Reader, Writer};
 use itzahuemo_reference::reference::extractor::{self, Step};
 use itzahuemo_reference::reference::frame::Settings;
 use itzahuemo_reference::reference::judge::{self, Verdict};
@@ -72,30 +73,56 @@ fn syndrome(frame: &[u8]) -> Vec<bool> {
     dividend.split_off(dividend.len() - 16)
 }
 
-/// The refusals 3, 13 and 4 to 7, or the count, the replay flag and the pointer.
-fn header(settings: &Settings, frame: &[u8]) -> Result<(usize, bool, usize), u64> {
-    if frame.len() != settings.zone + if settings.trailer { 10 } else { 8 } {
+/// The refusals 3, 13 and 4 to 6, or the count, the replay flag and the pointer, on a channel of
+/// either kind: its name, its zone and trailer, and the number that its pointers are below.
+fn either_header(
+    (spacecraft, channel): (u8, u8),
+    (zone, trailer): (usize, bool),
+    pointers: usize,
+    frame: &[u8],
+) -> Result<(usize, bool, usize), u64> {
+    if frame.len() != zone + if trailer { 10 } else { 8 } {
         return Err(3);
     }
-    if settings.trailer && syndrome(frame).contains(&true) {
+    if trailer && syndrome(frame).contains(&true) {
         return Err(13);
     }
     if frame[0] / 64 != 1 {
         return Err(4);
     }
     let name = number(&frame[..2]) % 16_384;
-    if name != usize::from(settings.spacecraft) * 64 + usize::from(settings.channel) {
+    if name != usize::from(spacecraft) * 64 + usize::from(channel) {
         return Err(5);
     }
     let spare = frame[5] % 128;
     let pointer = number(&frame[6..8]);
-    if spare > 0 || pointer >= 2_048 {
+    if spare > 0 || pointer >= pointers {
         return Err(6);
     }
-    if pointer >= settings.zone && pointer <= 2_045 {
+    Ok((number(&frame[2..5]), frame[5] >= 128, pointer))
+}
+
+/// The refusals 3, 13 and 4 to 7, or the count, the replay flag and the pointer.
+fn header(settings: &Settings, frame: &[u8]) -> Result<(usize, bool, usize), u64> {
+    let Settings { spacecraft, channel, zone, trailer, .. } = *settings;
+    let head = either_header((spacecraft, channel), (zone, trailer), 2_048, frame)?;
+    if head.2 >= zone && head.2 <= 2_045 {
         return Err(7);
     }
-    Ok((number(&frame[2..5]), frame[5] >= 128, pointer))
+    Ok(head)
+}
+
+/// The refusals 3, 13 and 4 to 7, or the count, the replay flag and the number of bits.
+fn bit_header(settings: &bitstream::Settings, frame: &[u8]) -> Result<(usize, bool, usize), u64> {
+    let bitstream::Settings { spacecraft, channel, width, trailer, .. } = *settings;
+    let (count, replay, pointer) =
+        either_header((spacecraft, channel), (width, trailer), 16_384, frame)?;
+    match pointer {
+        16_382 => Ok((count, replay, 0)),
+        16_383 => Ok((count, replay, 8 * width)),
+        last if last < 8 * width - 1 => Ok((count, replay, last + 1)),
+        _ => Err(7),
+    }
 }
 
 /// What is said of a packet, with its octets.
@@ -367,4 +394,138 @@ fn multiplexed_packets_are_carried() {
             assert_eq!(verdict(&settings, &run.frames), Verdict::Pass);
         }
     }
+}
+
+/// A frame of bits that was read: its count and the number of its bits.
+type Unit = (usize, usize);
+
+/// The flag of the last of all the units read: it has bits, and looking back to the last unit with
+/// bits before it, or to the first unit, some count did not follow.
+fn loss_flag(units: &[Unit]) -> bool {
+    let (last, before) = units.split_last().unwrap();
+    let since = before.iter().rposition(|unit| unit.1 > 0).unwrap_or(0);
+    last.1 > 0 && units[since..].windows(2).any(|two| two[1].0 != (two[0].0 + 1) % 16_777_216)
+}
+
+/// Reads one more frame and holds the reader against the list of all units read before, to which it
+/// adds the unit of a frame that is not refused; answers the flag.
+fn read_on(
+    settings: &bitstream::Settings,
+    reader: &mut Reader,
+    units: &mut Vec<Unit>,
+    frame: &[u8],
+) -> Result<bool, u64> {
+    let before = *reader;
+    let said = bitstream::read(settings, reader, frame).map_err(|refusal| refusal.number());
+    let expected = bit_header(settings, frame).map(|(count, replay, number)| {
+        units.push((count, number));
+        let octets = &frame[8..8 + (number + 7) / 8];
+        bitstream::Bits { count: count as u32, replay, loss: loss_flag(units), number, octets }
+    });
+    assert_eq!(said, expected, "{settings:?} {units:?} {frame:x?}");
+    match units.last() {
+        // What waits is told by bits in the next frame.
+        Some(&(last, _)) => {
+            let next = ((last + 1) % 16_777_216, 1);
+            let waiting = loss_flag(&[&units[..], &[next]].concat());
+            assert_eq!(*reader, Reader { last: Some(last as u32), waiting }, "{units:?}");
+        }
+        None => assert_eq!(*reader, Reader::START),
+    }
+    if said.is_err() {
+        assert_eq!(*reader, before);
+    }
+    said.map(|bits| bits.loss)
+}
+
+/// Settings of a channel of bits, with a small zone.
+fn bit_settings(random: &mut Random) -> bitstream::Settings {
+    let Settings { spacecraft, channel, fill, trailer, .. } = generate::settings(random);
+    let width = random.within(1, 6);
+    bitstream::Settings { spacecraft, channel, width, fill, trailer }
+}
+
+/// Frames of bits as they come in, most of them fill: some are lost, some come twice, some are
+/// spoilt, and some come after a spoilt one. At times the counts begin again.
+fn bit_frames(random: &mut Random, settings: &bitstream::Settings) -> Vec<Vec<u8>> {
+    let bitstream::Settings { width, trailer, .. } = *settings;
+    let start = random.pick(&[0, 5_000, 16_777_206]) + random.within(0, 9) as u32;
+    let mut writer = Writer { count: start };
+    let mut frames = vec![];
+    for _ in 0..random.within(1, 60) {
+        let number = if random.once_in(3) { random.within(1, 8 * width) } else { 0 };
+        let bits = random.octets(width);
+        let mut frame = vec![0; settings.frame_length()];
+        bitstream::write(settings, &mut writer, &bits, number, &mut frame).unwrap();
+        let mut spoilt = frame.clone();
+        generate::spoil_bits(random, width, trailer, &mut spoilt);
+        match random.within(1, 16) {
+            1 => {}
+            2 => frames.extend([frame.clone(), frame]),
+            3 => frames.push(spoilt),
+            4 | 5 => frames.extend([spoilt, frame]),
+            _ => frames.push(frame),
+        }
+        if random.once_in(50) {
+            writer.count = start;
+        }
+    }
+    frames
+}
+
+/// Each loss flag is the one that the whole list of units gives.
+#[test]
+fn loss_flags_are_those_of_the_rules() {
+    let (mut flags, mut refusals) = ([0; 2], BTreeMap::new());
+    let mut told_late = 0;
+    for seed in 0..4_000 {
+        let mut random = Random::new(0xB175_0000 + seed);
+        let settings = bit_settings(&mut random);
+        let (mut reader, mut units) = (Reader::START, vec![]);
+        for frame in bit_frames(&mut random, &settings) {
+            let waited = reader.waiting;
+            match read_on(&settings, &mut reader, &mut units, &frame) {
+                Ok(flag) => {
+                    flags[usize::from(flag)] += 1;
+                    told_late += u32::from(flag && waited);
+                }
+                Err(number) => *refusals.entry(number).or_insert(0) += 1,
+            }
+        }
+    }
+    assert!(flags.iter().all(|&times| times > 5_000), "{flags:?}");
+    assert!(told_late > 2_000, "{told_late}");
+    assert!(refusals.keys().eq(&[3, 4, 5, 6, 7, 13]), "{refusals:?}");
+    assert!(refusals.values().all(|&times| times > 100), "{refusals:?}");
+}
+
+/// The same for every run of six frames of which each follows, comes again or has one lost before
+/// it, with bits or without; and for a frame that is refused, anywhere in them.
+#[test]
+fn loss_flags_of_every_short_run() {
+    let settings =
+        bitstream::Settings { spacecraft: 66, channel: 3, width: 1, fill: 0, trailer: false };
+    let frame = |count: u32, number: usize| {
+        let mut frame = [0; 9];
+        bitstream::write(&settings, &mut Writer { count }, &[0x71], number, &mut frame).unwrap();
+        frame
+    };
+    let kinds = [(0, 0), (0, 5), (1, 0), (1, 5), (2, 0), (2, 5)];
+    let mut runs = vec![(16_777_213, Reader::START, vec![])];
+    for _ in 0..6 {
+        let mut longer = vec![];
+        for (last, mut reader, mut units) in runs {
+            let mut refused = frame(last, 5);
+            refused[5] = 0x01;
+            assert_eq!(read_on(&settings, &mut reader, &mut units, &refused), Err(6));
+            for (ahead, number) in kinds {
+                let count = (last + ahead) % 16_777_216;
+                let (mut reader, mut units) = (reader, units.clone());
+                read_on(&settings, &mut reader, &mut units, &frame(count, number)).unwrap();
+                longer.push((count, reader, units));
+            }
+        }
+        runs = longer;
+    }
+    assert_eq!(runs.len(), 6_usize.pow(6));
 }
