@@ -38,6 +38,12 @@ fn the_reference_agrees_with_itself_and_everything_is_met() {
         ("shown in", 0..=2),
         ("verdict", 1..=2),
         ("loss flag", 0..=1),
+        ("loss waits", 0..=1),
+        ("loss in fill", 0..=3),
+        ("loss with bits", 0..=3),
+        ("loss waits at refusal", 1..=1),
+        ("loss waits at refusal", 3..=7),
+        ("loss waits at refusal", 13..=13),
         ("routed", 1..=2),
         ("destinations", 0..=2),
     ] {
@@ -63,11 +69,11 @@ struct Outcome<'a> {
 
 /// The reference, with its outcomes changed before they are seen. The change is
 /// also given the record and the buffer as they were lent.
-struct Impostor {
-    change: fn(&[u64], &[u8], Outcome),
+struct Impostor<C> {
+    change: C,
 }
 
-impl Impostor {
+impl<C: Fn(&[u64], &[u8], Outcome)> Impostor<C> {
     fn made(
         &self,
         call: &'static str,
@@ -113,7 +119,7 @@ macro_rules! made {
 
 macro_rules! the_impostor {
     ($($name:ident($($arguments:tt)*);)*) => {
-        impl Calls for Impostor {
+        impl<C: Fn(&[u64], &[u8], Outcome)> Calls for Impostor<C> {
             $(fn $name(&self, $($arguments)*) -> u64 {
                 let (_record, _buffer, _answer) = (&mut [0; 0], &mut [0; 0], &mut [0; 0]);
                 made!(self $name _record _buffer _answer () $($arguments)*,)
@@ -125,7 +131,7 @@ macro_rules! the_impostor {
 each_call!(the_impostor);
 
 /// The call in which the comparison first sees through an impostor.
-fn seen(change: fn(&[u64], &[u8], Outcome)) -> &'static str {
+fn seen(change: impl Fn(&[u64], &[u8], Outcome)) -> &'static str {
     let impostor = Impostor { change };
     (0..SESSIONS)
         .find_map(|seed| session(&Reference, &impostor, seed).err())
@@ -268,11 +274,181 @@ fn a_space_header_that_is_not_written() {
     assert_eq!(call, "write_space");
 }
 
+/// The comparison sees through a reader of bits that changes what it makes of a frame it reads. The
+/// change is given the record as it was lent, the record and the answer.
+fn is_seen_reading(change: impl Fn(&[u64], &mut [u64], &mut [u64])) {
+    let call = seen(|lent, _, outcome| {
+        if outcome.call == "bits_read" && *outcome.refusal == 0 {
+            change(lent, outcome.record, outcome.answer);
+        }
+    });
+    assert_eq!(call, "bits_read");
+}
+
+/// Whether the frame that was read has no bits.
+fn is_fill(answer: &[u64]) -> bool {
+    answer[3] == 0
+}
+
+/// 1 if the count of the frame that was read does not follow the record's, else 0.
+fn own_loss(lent: &[u64], answer: &[u64]) -> u64 {
+    u64::from(lent[0] == 1 && answer[0] != (lent[1] + 1) % (1 << 24))
+}
+
 #[test]
 fn a_reader_of_bits_that_never_sees_a_loss() {
-    let call = seen(|_, _, outcome| {
-        if outcome.call == "bits_read" && outcome.answer.len() >= 6 && *outcome.refusal == 0 {
-            outcome.answer[2] = 0;
+    is_seen_reading(|_, _, answer| answer[2] = 0);
+}
+
+#[test]
+fn a_reader_of_bits_that_tells_each_loss_at_once() {
+    is_seen_reading(|lent, record, answer| {
+        answer[2] = own_loss(lent, answer);
+        record[2] = 0;
+    });
+}
+
+#[test]
+fn a_reader_of_bits_that_tells_a_loss_with_fill() {
+    is_seen_reading(|lent, _, answer| {
+        if is_fill(answer) {
+            answer[2] = own_loss(lent, answer);
+        }
+    });
+    is_seen_reading(|_, record, answer| {
+        if is_fill(answer) {
+            answer[2] = record[2];
+        }
+    });
+}
+
+#[test]
+fn a_reader_of_bits_that_forgets_a_loss_in_fill() {
+    is_seen_reading(|lent, record, answer| {
+        if is_fill(answer) {
+            record[2] = own_loss(lent, answer);
+        }
+    });
+}
+
+#[test]
+fn a_reader_of_bits_for_whom_fill_cannot_be_lost() {
+    is_seen_reading(|lent, record, answer| {
+        if is_fill(answer) {
+            record[2] = lent[2];
+        }
+    });
+}
+
+#[test]
+fn a_reader_of_bits_that_lets_no_loss_wait() {
+    is_seen_reading(|_, record, _| record[2] = 0);
+}
+
+#[test]
+fn a_reader_of_bits_that_tells_a_loss_again() {
+    is_seen_reading(|_, record, answer| {
+        if !is_fill(answer) {
+            record[2] = answer[2];
+        }
+    });
+    is_seen_reading(|lent, record, answer| {
+        if !is_fill(answer) {
+            record[2] = lent[2];
+        }
+    });
+    is_seen_reading(|lent, record, answer| {
+        if !is_fill(answer) {
+            record[2] = own_loss(lent, answer);
+        }
+    });
+}
+
+#[test]
+fn a_reader_of_bits_that_leaves_out_its_own_count() {
+    is_seen_reading(|lent, _, answer| {
+        if !is_fill(answer) {
+            answer[2] = lent[2];
+        }
+    });
+}
+
+#[test]
+fn a_reader_of_bits_that_leaves_out_the_counts_before() {
+    is_seen_reading(|lent, _, answer| {
+        if !is_fill(answer) {
+            answer[2] = own_loss(lent, answer);
+        }
+    });
+}
+
+/// Two losses are no loss.
+#[test]
+fn a_reader_of_bits_whose_losses_cancel() {
+    is_seen_reading(|lent, record, answer| {
+        let loss = lent[2] ^ own_loss(lent, answer);
+        if is_fill(answer) {
+            record[2] = loss;
+        }
+    });
+    is_seen_reading(|lent, _, answer| {
+        let loss = lent[2] ^ own_loss(lent, answer);
+        if !is_fill(answer) {
+            answer[2] = loss;
+        }
+    });
+}
+
+#[test]
+fn a_reader_of_bits_that_a_refused_frame_changes() {
+    let changes: [fn(&mut [u64]); 3] =
+        [|record| record[2] = 1, |record| record[2] = 0, |record| record[1] += 1];
+    for (refused, change) in
+        [3, 4, 5, 6, 7, 13].iter().flat_map(|refused| changes.map(|change| (refused, change)))
+    {
+        let call = seen(|lent, _, outcome| {
+            if outcome.call == "bits_read" && outcome.refusal == refused && lent[0] == 1 {
+                change(outcome.record);
+            }
+        });
+        assert_eq!(call, "bits_read", "{refused}");
+    }
+}
+
+/// The comparison sees through a reader of bits that takes a record which is none.
+fn is_seen_taking(what: &str, is_taken: impl Fn(&[u64]) -> bool) {
+    let call = seen(|lent, _, outcome| {
+        if outcome.call == "bits_read" && *outcome.refusal == 10 && is_taken(lent) {
+            *outcome.refusal = 0;
+        }
+    });
+    assert_eq!(call, "bits_read", "{what}");
+}
+
+#[test]
+fn a_reader_of_bits_that_goes_by_any_record() {
+    let wheel = 1 << 24;
+    for waiting in [2, 3, 256, 257, 1 << 32, (1 << 32) + 1, u64::MAX] {
+        is_seen_taking("a flag that is none", |lent| {
+            lent[0] == 1 && lent[1] < wheel && lent[2] == waiting
+        });
+    }
+    is_seen_taking("a loss before any frame", |lent| lent[..3] == [0, 0, 1]);
+    is_seen_taking("a count before any frame", |lent| lent[0] == 0 && lent[1] > 0 && lent[2] == 0);
+    for waiting in [0, 1] {
+        is_seen_taking("a count off the wheel", |lent| lent[..3] == [1, wheel, waiting]);
+        is_seen_taking("a third kind", |lent| {
+            lent[0] == 2 && lent[1] < wheel && lent[2] == waiting
+        });
+    }
+}
+
+/// Does without the number of the flag: a record that ends before it has none.
+#[test]
+fn a_reader_of_bits_with_a_shorter_record() {
+    let call = seen(|lent, _, outcome| {
+        if outcome.call == "bits_read" && *outcome.refusal == 2 && lent.len() == 2 {
+            *outcome.refusal = 0;
         }
     });
     assert_eq!(call, "bits_read");
