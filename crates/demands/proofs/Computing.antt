@@ -27,8 +27,9 @@ use Rattle.extractor.specs.Answers.{entered-numbers, enter-answer, found-number
 use Rattle.extractor.specs.Calls.{event-at, steps, spend-answer}
 use Rattle.judge.specs.Judge.{is-fault, faulty-entry}
 use Rattle.judge.specs.Calls.{counts-well, judge-reachable, frame-refusals, close-rows, stepped-through, try-frame, judge-frame, frame-call, judge-close, close-says, closes-with, close-call}
-use Rattle.bitstream.specs.Bitstream.{octets-for, pointer-for, valid-bits, mixed, last-octet, zone-with, writer-reachable, write-rows, frame-with, written, reader-reachable, read-rows, loss-flag, leading-octets}
+use Rattle.bitstream.specs.Bitstream.{octets-for, pointer-for, valid-bits, mixed, last-octet, zone-with, writer-reachable, write-rows, frame-with, written, reader-reachable, read-rows, untold, loss-flag, next-reader, leading-octets}
 use Rattle.bitstream.specs.Bitstream as bits
+use Rattle.bitstream.specs.Statements.{run-read}
 use Rattle.runfile.specs.RunFile.{setup-of, fits, stop, with-setup, with-frame, stands, nothing-after, ending, records, setup-octets, frame-octets, run-file}
 use Rattle.runfile.specs.RunFile as runfile
 use Rattle.runfile.specs.Steps.{next-record, body-length, taken, closed}
@@ -72,7 +73,7 @@ unfolding extracting is-fault faulty-entry counts-well judge-reachable frame-ref
 judging = tt
 
 unfoldable pub bitstreams : Unit {0}
-unfolding frames octets-for pointer-for valid-bits mixed last-octet zone-with writer-reachable write-rows frame-with written reader-reachable read-rows loss-flag leading-octets bits.reading
+unfolding frames octets-for pointer-for valid-bits mixed last-octet zone-with writer-reachable write-rows frame-with written reader-reachable read-rows untold loss-flag next-reader leading-octets bits.reading run-read
 bitstreams = tt
 
 unfoldable pub run-files : Unit {0}

@@ -8,6 +8,7 @@ use Rattle.trailer.proofs.Sharp.{sharp}
 use Rattle.frames.proofs.Theorems.{headers-read}
 use Rattle.frames.proofs.Worth.{worth}
 use Rattle.bitstream.proofs.ReadBack.{read-back, has-bits}
+use Rattle.bitstream.proofs.Losses.{losses-wait}
 use Rattle.extractor.proofs.Theorems.{says-the-rules, spends-in-time}
 use Rattle.runfile.proofs.Theorems.{reads-run-files}
 use Rattle.demands.specs.Demand2.{Demand2}
@@ -21,7 +22,7 @@ demand-2 = record {
   headers-read = headers-read;
   trailers = record { as-printed = as-printed; syndrome = syndrome; worth = worth; sharp = sharp };
   packets-read = record { wrapped = round-trip; space = space-written-read; space-again = space-read-written; space-same = same-header };
-  bits-read = record { written-read = read-back; read-has = λ s x f o done. has-bits s x f o done };
+  bits-read = record { written-read = read-back; read-has = λ s x f o done. has-bits s x f o done; losses = losses-wait };
   orders = run-delivers;
   orders-back = orders-handed-over;
   list = list-carried;

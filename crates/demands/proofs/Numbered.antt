@@ -282,6 +282,25 @@ unwrapped : wrapping.Units
 unfolding computing.packets
 unwrapped = record { each = refl; part = refl }
 
+losses-told : bits.Losses
+unfolding computing.bitstreams
+losses-told = record {
+  in-step = refl;
+  wheel = refl;
+  in-fill = refl;
+  two = refl;
+  own = refl;
+  each-bits = refl;
+  from-the-start = refl;
+  again = refl;
+  few = refl;
+  all = refl;
+  refusals = refl;
+  refused = refl;
+  refused-waits = refl;
+  left = refl;
+}
+
 bits-carried : bits.Frames
 unfolding computing.bitstreams
 bits-carried = record {
@@ -294,7 +313,9 @@ bits-carried = record {
   reserved = refl;
   replayed = refl;
   follows = refl;
+  waited = refl;
   fill-alone = refl;
+  fill-waits = refl;
   leading = refl;
   other-length = refl;
 }
@@ -468,6 +489,7 @@ numbers = record {
     closed = closed;
     wrapped = wrapped;
     unwrapped = unwrapped;
+    losses = losses-told;
     bits = bits-carried;
     loaded = loaded;
     routed = routed;

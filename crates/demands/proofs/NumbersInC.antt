@@ -63,6 +63,8 @@ unfolding computing.arrays
 bits = record {
   written = refl;
   read = refl;
+  fill = refl;
+  waited = refl;
 }
 
 relay : arrays.Relay

@@ -1,4 +1,4 @@
--- Demand 2's list and events, and Demand 3, hold of the C calls: their runs are the library's.
+-- Demand 2's list, events and loss flags, and Demand 3, hold of the C calls: their runs are the library's.
 -- Assumes nothing.
 use mathlib.Core.Path.{_≡_, refl, sym, ap, _∙_, subst}
 use mathlib.Core.List.{List, _∷_, map}
@@ -6,7 +6,7 @@ use mathlib.Core.Bool.{Bool, true, false}
 use Prim.Native.Nat.{ℕ, _≤_, min}
 use native.Mathlib.Omega.{arith}
 use lib.ListN.{length}
-use lib.Dec.{leb, eqb}
+use lib.Dec.{leb}
 use borrow.Author.Tests.{le-leb}
 use Rattle.octets.specs.Basics.{All}
 use Rattle.frames.specs.Frame.{in-range}
@@ -31,27 +31,26 @@ use Rattle.demands.specs.OverC.Sending.{run-in-c}
 use Rattle.demands.specs.OverC.{Long, RunsInC, HandedOverInC, Demand2InC, Demand3InC, OverC}
 use Rattle.carries.proofs.CarefulRuns.{run-delivers, list-carried}
 use Rattle.demands.proofs.Demand3.{demand-3}
+use Rattle.demands.proofs.OverC.Arrays.{flag-back}
 use Rattle.demands.proofs.OverC.Judges.{judges-in-c, closes-in-c}
 use Rattle.demands.proofs.OverC.Listens.{names-inside, listens-in-c, smooth-in-c}
 use Rattle.demands.proofs.RoundTrips.{orders-handed-over, list-handed-over}
 use Rattle.demands.proofs.OverC.Sends.{sends-in-c}
+use Rattle.demands.proofs.OverC.Reads.{losses-in-c}
 pub mod Arrays
 pub mod Sends
 pub mod Names
 pub mod Listens
 pub mod Judges
+pub mod Reads
 
 uncut : (n most : ℕ) → n ≤ most → min n most ≡ n
 uncut n most h = omega arith
 
--- a flag as a number is 0 or 1, and says which
+-- a flag as a number is 0 or 1
 flag-fits : (b : Bool) → leb (bit b) 1 ≡ true
 flag-fits true = refl
 flag-fits false = refl
-
-flag-back : (b : Bool) → eqb (bit b) 1 ≡ b
-flag-back true = refl
-flag-back false = refl
 
 -- the link, and the octets of the zone, behind the numbers that state them
 link-stated : (l : Link) (rest : List ℕ) → Linked l → link-of (l .spacecraft ∷ l .channel ∷ rest) (bit (l .trailed)) ≡ l
@@ -129,4 +128,4 @@ module _ (settings : List ℕ) (stated : settings-numbers ≤ length settings) w
       }
 
 pub over-c : OverC
-over-c = record { runs = runs-in-c; demand-2 = demand-2-in-c; demand-3 = demand-3-in-c; stated = states; bits-stated = bits-state }
+over-c = record { runs = runs-in-c; demand-2 = demand-2-in-c; losses = losses-in-c; demand-3 = demand-3-in-c; stated = states; bits-stated = bits-state }

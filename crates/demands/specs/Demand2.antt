@@ -17,7 +17,7 @@ use Rattle.frames.specs.Worth.{Worth}
 use Rattle.frames.specs.BitFrame.{bit-frame-length}
 use Rattle.frames.specs.declared.bits.BitSettings.{BitSettings}
 use Rattle.bitstream.specs.Bitstream.{written, reader-reachable, reading}
-use Rattle.bitstream.specs.Statements.{ReadBack, HasBits}
+use Rattle.bitstream.specs.Statements.{ReadBack, HasBits, LossesWait}
 use Rattle.bitstream.specs.declared.Writer.{Writer}
 use Rattle.bitstream.specs.declared.Reader.{Reader}
 use Rattle.extractor.specs.Statements.{SaysTheRules, SpendsInTime}
@@ -55,12 +55,13 @@ pub record Trailers : Type 0 where
   pub worth : Worth
   pub sharp : Sharp
 
--- bits that are written are read back, and a frame that is read has its bits where the promise says
+-- bits that are written are read back, a frame that is read has its bits where the promise says, and the loss flag waits for bits
 pub record Bits : Type 0 where
   pub written-read : (s : BitSettings) (w : Writer) (bits : List ℕ) (n : ℕ) (buffer : List ℕ) → written s w bits n buffer .said .refusal ≡ 0
       → AllOctets bits → (x : Reader) → reader-reachable s x ≡ true
       → ReadBack s x (w .count) n bits (take (bit-frame-length s) (written s w bits n buffer .frame))
   pub read-has : (s : BitSettings) (x : Reader) (f : List ℕ) → AllOctets f → reading s x f .refusal ≡ 0 → HasBits s (reading s x f .bits) f
+  pub losses : LossesWait
 
 -- and with these the list, carried and handed over, every event of the extractor, how soon a frame is spent, and run files
 pub record Demand2 : Type 0 where

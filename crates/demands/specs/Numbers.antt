@@ -71,6 +71,7 @@ pub record Outcomes : Type 0 where
   pub closed : judging.Verdicts
   pub wrapped : wrapping.Wrapped
   pub unwrapped : wrapping.Units
+  pub losses : bits.Losses
   pub bits : bits.Frames
   pub loaded : relaying.Tables
   pub routed : relaying.Ways

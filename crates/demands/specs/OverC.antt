@@ -1,4 +1,4 @@
--- Demand 2's list and events, and Demand 3, of the C interface. The arrays that a call leaves state the record that the library hands
+-- Demand 2's list, events and loss flags, and Demand 3, of the C interface. The arrays that a call leaves state the record that the library hands
 -- on, so a run of C calls is the library's run.
 use Prim.Native.Nat.{ℕ, _%_, _≤_}
 use mathlib.Core.Logic.{_↔_}
@@ -13,6 +13,7 @@ use Rattle.frames.specs.BitFrame.{bits-in-range}
 use Rattle.frames.specs.declared.Settings.{Settings}
 use Rattle.frames.specs.declared.bits.BitSettings.{BitSettings}
 use Rattle.multiplexer.specs.Calls.{Call, to-put}
+use Rattle.bitstream.specs.Loss.{run-said}
 use Rattle.extractor.specs.Extract.{fresh, marked, told, events-in}
 use Rattle.extractor.specs.Calls.{listen}
 use Rattle.extractor.specs.Statements.{Fit}
@@ -23,7 +24,7 @@ use Rattle.arrays.specs.Arrays.{bit}
 use Rattle.exports.specs.Left.{Left}
 use Rattle.exports.specs.Channel.{settings-numbers, settings-of}
 use Rattle.exports.specs.Extract.{step-leaves}
-use Rattle.exports.specs.Bits.{bit-settings-of}
+use Rattle.exports.specs.Bits.{bit-settings-numbers, bit-settings-of}
 use Rattle.carries.specs.Carries.{Carries}
 use Rattle.carries.specs.Careful.{run, filler, offered, Formed}
 use Rattle.carries.specs.Demand2List.{Lends, Delivers}
@@ -31,9 +32,11 @@ use Rattle.demands.specs.Demand3.{Smooth}
 use Rattle.demands.specs.OverC.Sending.{as-sending, run-in-c}
 use Rattle.demands.specs.OverC.Listening.{Holding, holding, zeroed, Inside, as-finds, FrameInC, frame-in-c, as-listened, listen-in-c}
 use Rattle.demands.specs.OverC.Judging.{as-calls, judge-in-c, close-in-c}
+use Rattle.demands.specs.OverC.Reading.{unread, read-in-c}
 pub mod Sending
 pub mod Listening
 pub mod Judging
+pub mod Reading
 
 -- a record's four numbers at least, and so many of an answer
 pub record Long (array answer : List ℕ) (room : ℕ) : Type 0 where
@@ -94,6 +97,12 @@ pub record Demand2InC (settings : List ℕ) (s : Settings) : Type 0 where
   pub events : (array store answer : List ℕ) (fs : List (List ℕ)) → Long array answer 6 → Fit s store
       → listen-in-c settings (holding (zeroed array) store answer) fs .told ≡ told s fresh fs
 
+-- and of a bitstream channel: what a caller reads of each frame of any run, its loss flag included, is what the rule over the whole run gives
+abbrev pub LossesInC : List ℕ → BitSettings → Type 0
+LossesInC settings s =
+    (array answer : List ℕ) (fs : List (List ℕ)) → 3 ≤ length array → 6 ≤ length answer
+    → read-in-c settings (unread array) answer fs ≡ run-said s [] fs
+
 -- Demand 3: no call of the judge is refused; the answer says pass exactly when some list is carried; and that list is handed over
 pub record JudgesInC (settings : List ℕ) (s : Settings) (array store answer : List ℕ) (fs : List (List ℕ)) : Type 0 where
   pub frames-accepted : All (λ n. n ≡ 0) (judge-in-c settings (zeroed array) store fs .refusals)
@@ -110,6 +119,7 @@ Demand3InC settings s =
 pub record OverC : Type 0 where
   pub runs : (settings : List ℕ) → settings-numbers ≤ length settings → RunsInC settings (settings-of settings)
   pub demand-2 : (settings : List ℕ) → settings-numbers ≤ length settings → Demand2InC settings (settings-of settings)
+  pub losses : (settings : List ℕ) → bit-settings-numbers ≤ length settings → LossesInC settings (bit-settings-of settings)
   pub demand-3 : (settings : List ℕ) → settings-numbers ≤ length settings → Demand3InC settings (settings-of settings)
   pub stated : (s : Settings) (rest : List ℕ) → in-range s ≡ true → s .fill ≤ 255
       → settings-of (s .link .spacecraft ∷ s .link .channel ∷ s .zone ∷ s .limit ∷ s .fill ∷ bit (s .link .trailed) ∷ rest) ≡ s

@@ -2,7 +2,7 @@
 -- Assumes nothing.
 use mathlib.Core.Path.{_≡_, refl, ap, _∙_}
 use mathlib.Core.List.{List, _++_}
-use mathlib.Core.Bool.{false}
+use mathlib.Core.Bool.{Bool, true, false}
 use Prim.Native.Nat.{ℕ, _+_, _≤_}
 use native.Mathlib.Nat.{zero-add}
 use native.Mathlib.Omega.{arith}
@@ -12,8 +12,13 @@ use borrow.Author.Tests.{leb-true, le-ltb}
 use Rattle.octets.specs.Basics.{over, laid}
 use Rattle.octets.proofs.Tests.{test}
 use Rattle.octets.proofs.Written.{laid-within, length-over}
-use Rattle.arrays.specs.Arrays.{told, kept}
+use Rattle.arrays.specs.Arrays.{told, kept, bit}
 use Rattle.exports.specs.Channel.{settings-numbers, short}
+
+-- a flag as a number says which it is
+pub flag-back : (b : Bool) → eqb (bit b) 1 ≡ b
+flag-back true = refl
+flag-back false = refl
 
 pub long-enough : (settings numbers answer : List ℕ) (room : ℕ) → settings-numbers ≤ length settings → 4 ≤ length numbers → room ≤ length answer
     → short (length settings) (length numbers) (length answer) room ≡ false

@@ -104,7 +104,7 @@ refused-keep = record {
       (λ t. rw t (λ h. (rw (ne-eqb (a .said .refusal) 0 h) refl, written-kept (bit-settings-of settings) (writer-of numbers) bits n frame h)));
   bits-read = λ settings numbers frame array.
       let a = reading (bit-settings-of settings) (reader-of numbers) frame in
-      test (bits-short (length settings) (length numbers) 2 (length array) 6) (λ t. rw t (λ h. (refl, refl)))
+      test (bits-short (length settings) (length numbers) 3 (length array) 6) (λ t. rw t (λ h. (refl, refl)))
       (λ t. rw t (λ h. (rw (ne-eqb (a .refusal) 0 h) refl, refl)));
   wrapped = λ limit protocol extension unit packet array.
       test (ltb (length array) 1) (λ t. rw t (λ h. (refl, refl))) (λ t. rw t (λ h. (refl, wrapped-kept limit protocol extension unit packet h)));

@@ -106,12 +106,17 @@ pub record Judge : Type 0 where
   pub closed : map (λ (record-array : List ℕ). close-leaves settings record-array store (lent 2)) ((0 ∷ 0 ∷ 0 ∷ 0 ∷ []) ∷ (1 ∷ 1 ∷ 0 ∷ 2 ∷ []) ∷ (2 ∷ 5 ∷ 3 ∷ 0 ∷ []) ∷ (3 ∷ 0 ∷ 0 ∷ 0 ∷ []) ∷ [])
       ≡ left 0 [] [] (1 ∷ 0 ∷ []) ∷ left 0 [] [] (2 ∷ 1 ∷ []) ∷ left 0 [] [] (2 ∷ 3 ∷ []) ∷ left 10 [] [] (0 ∷ 0 ∷ []) ∷ []
 
--- a writer's record: the count; a reader's: whether a frame was read, and its count; an answer: count, replay, loss, bits, where they lie and
--- in how many octets
+-- a writer's record: the count; a reader's: whether a frame was read, its count, and whether a loss waits; an answer: count, replay, loss, bits,
+-- where they lie and in how many octets
 pub record Bits : Type 0 where
   pub written : write-leaves bit-settings (4 ∷ []) (0xAB ∷ []) 8 (lent 11) ≡ left 0 (5 ∷ []) (frame 4 0x00 0x07 (0xAB ∷ 0x55 ∷ 0xFF ∷ [])) []
-  pub read : read-leaves bit-settings (1 ∷ 2 ∷ []) (0x50 ∷ 0x83 ∷ 0x00 ∷ 0x00 ∷ 0x04 ∷ 0x80 ∷ 0x00 ∷ 0x08 ∷ 0xAB ∷ 0x55 ∷ []) (lent 6)
-      ≡ left 0 (1 ∷ 4 ∷ []) [] (4 ∷ 1 ∷ 1 ∷ 9 ∷ 8 ∷ 2 ∷ [])
+  pub read : read-leaves bit-settings (1 ∷ 2 ∷ 0 ∷ []) (0x50 ∷ 0x83 ∷ 0x00 ∷ 0x00 ∷ 0x04 ∷ 0x80 ∷ 0x00 ∷ 0x08 ∷ 0xAB ∷ 0x55 ∷ []) (lent 6)
+      ≡ left 0 (1 ∷ 4 ∷ 0 ∷ []) [] (4 ∷ 1 ∷ 1 ∷ 9 ∷ 8 ∷ 2 ∷ [])
+  -- fill alone, with a loss that waits and without, where the count follows and where it does not; then bits
+  pub fill : map (λ (r : List ℕ). read-leaves bit-settings r (frame 4 0x3F 0xFE (lent 2)) (lent 6)) ((1 ∷ 3 ∷ 0 ∷ []) ∷ (1 ∷ 3 ∷ 1 ∷ []) ∷ (1 ∷ 2 ∷ 0 ∷ []) ∷ [])
+      ≡ map (λ waiting. left 0 (1 ∷ 4 ∷ waiting ∷ []) [] (4 ∷ 0 ∷ 0 ∷ 0 ∷ 8 ∷ 0 ∷ [])) (0 ∷ 1 ∷ 1 ∷ [])
+  pub waited : map (λ waiting. read-leaves bit-settings (1 ∷ 3 ∷ waiting ∷ []) (frame 4 0x00 0x08 (lent 2)) (lent 6)) (0 ∷ 1 ∷ [])
+      ≡ map (λ lost. left 0 (1 ∷ 4 ∷ 0 ∷ []) [] (4 ∷ 0 ∷ lost ∷ 9 ∷ 8 ∷ 2 ∷ [])) (0 ∷ 1 ∷ [])
 
 -- a relay table's array: how many entries, then an APID and a destination for each, and 0 past the last; an answer: whether there is a path, and how
 -- many destinations
@@ -171,8 +176,8 @@ pub record Short : Type 0 where
       ≡ left 2 (lent 4) [] (lent 6) ∷ left 2 (lent 3) [] (lent 6) ∷ left 2 (lent 4) [] (lent 5) ∷ left 2 (lent 4) (lent 2) (lent 3) ∷ left 2 [] [] (lent 3) ∷ left 2 [] [] (lent 2) ∷ []
   pub judge : judge-leaves (lent 5) (lent 4) (lent 2) [] ∷ judge-leaves (lent 6) (lent 3) (lent 2) [] ∷ close-leaves (lent 6) (lent 4) [] (lent 1) ∷ []
       ≡ left 2 (lent 4) (lent 2) [] ∷ left 2 (lent 3) (lent 2) [] ∷ left 2 [] [] (lent 1) ∷ []
-  pub bits : write-leaves (lent 4) (lent 1) [] 0 (lent 2) ∷ write-leaves (lent 5) [] [] 0 (lent 2) ∷ read-leaves (lent 4) (lent 2) [] (lent 6) ∷ read-leaves (lent 5) (lent 1) [] (lent 6) ∷ read-leaves (lent 5) (lent 2) [] (lent 5) ∷ []
-      ≡ left 2 (lent 1) (lent 2) [] ∷ left 2 [] (lent 2) [] ∷ left 2 (lent 2) [] (lent 6) ∷ left 2 (lent 1) [] (lent 6) ∷ left 2 (lent 2) [] (lent 5) ∷ []
+  pub bits : write-leaves (lent 4) (lent 1) [] 0 (lent 2) ∷ write-leaves (lent 5) [] [] 0 (lent 2) ∷ read-leaves (lent 4) (lent 3) [] (lent 6) ∷ read-leaves (lent 5) (lent 2) [] (lent 6) ∷ read-leaves (lent 5) (lent 3) [] (lent 5) ∷ []
+      ≡ left 2 (lent 1) (lent 2) [] ∷ left 2 [] (lent 2) [] ∷ left 2 (lent 3) [] (lent 6) ∷ left 2 (lent 2) [] (lent 6) ∷ left 2 (lent 3) [] (lent 5) ∷ []
   -- a list that ends within an entry is short too
   pub relay : load-leaves (5 ∷ 256 ∷ 5 ∷ []) paths ∷ load-leaves (5 ∷ 256 ∷ []) (lent 64) ∷ []
       ≡ left 2 paths [] [] ∷ left 2 (lent 64) [] [] ∷ []
@@ -217,8 +222,8 @@ pub record Outside : Type 0 where
   pub judge : map (λ (s : List ℕ). judge-leaves s (1 ∷ 1 ∷ 0 ∷ 2 ∷ []) store (frame 1 0x00 0x03 rest)) outside ≡ each outside (left 1 (1 ∷ 1 ∷ 0 ∷ 2 ∷ []) store [])
   pub close : map (λ (s : List ℕ). close-leaves s (1 ∷ 1 ∷ 0 ∷ 2 ∷ []) store (lent 2)) outside ≡ each outside (left 1 [] [] (0 ∷ 0 ∷ []))
   pub write : map (λ (s : List ℕ). write-leaves s (4 ∷ []) [] 0 (lent 10)) bits-outside ≡ each bits-outside (left 1 (4 ∷ []) (lent 10) [])
-  pub read : map (λ (s : List ℕ). read-leaves s (1 ∷ 2 ∷ []) (frame 4 0x00 0x08 (lent 2)) (lent 6)) bits-outside
-      ≡ each bits-outside (left 1 (1 ∷ 2 ∷ []) [] (0 ∷ 0 ∷ 0 ∷ 0 ∷ 0 ∷ 0 ∷ []))
+  pub read : map (λ (s : List ℕ). read-leaves s (1 ∷ 2 ∷ 1 ∷ []) (frame 4 0x00 0x08 (lent 2)) (lent 6)) bits-outside
+      ≡ each bits-outside (left 1 (1 ∷ 2 ∷ 1 ∷ []) [] (0 ∷ 0 ∷ 0 ∷ 0 ∷ 0 ∷ 0 ∷ []))
   -- a limit that cannot be; a protocol and an extension that are no octets; a field of a space packet's header that is too great, each in its turn
   pub limit : formed-leaves 6 ten (lent 1) ∷ unwrap-leaves 6 six (lent 4) ∷ [] ≡ left 1 [] [] (0 ∷ []) ∷ left 1 [] [] (0 ∷ 0 ∷ 0 ∷ 0 ∷ []) ∷ []
   pub wrap : wrap-leaves 12 258 0 (0xAA ∷ []) (lent 4) (lent 1) ∷ wrap-leaves 12 6 261 (0xAA ∷ []) (lent 6) (lent 1) ∷ []
@@ -266,9 +271,21 @@ unjudged =
     ∷ (2 ∷ 1 ∷ 4294967296 ∷ 0 ∷ [])
     ∷ []
 
--- and for a reader of bits
+-- and for a reader of bits, with its flag, which is 0 or 1, and 0 before the first frame
 abbrev pub unread : List (List ℕ)
-unread = (2 ∷ 0 ∷ []) ∷ (2 ∷ 7 ∷ []) ∷ (0 ∷ 7 ∷ []) ∷ (1 ∷ 4294967296 ∷ []) ∷ []
+unread =
+    (2 ∷ 0 ∷ 0 ∷ [])
+    ∷ (2 ∷ 7 ∷ 0 ∷ [])
+    ∷ (2 ∷ 0 ∷ 1 ∷ [])
+    ∷ (0 ∷ 7 ∷ 0 ∷ [])
+    ∷ (0 ∷ 0 ∷ 1 ∷ [])
+    ∷ (0 ∷ 0 ∷ 2 ∷ [])
+    ∷ (1 ∷ 4294967296 ∷ 0 ∷ [])
+    ∷ (1 ∷ 16777216 ∷ 1 ∷ [])
+    ∷ (1 ∷ 3 ∷ 2 ∷ [])
+    ∷ (1 ∷ 3 ∷ 256 ∷ [])
+    ∷ (1 ∷ 3 ∷ 4294967297 ∷ [])
+    ∷ []
 
 -- Each is refused by 10 and stays as it was.
 pub record Refused : Type 0 where
@@ -286,7 +303,7 @@ pub record Refused : Type 0 where
   -- no space packet's header: all is 0
   pub no-space : read-space-leaves (0x10 ∷ 0x05 ∷ 0xC0 ∷ 0x09 ∷ 0x00 ∷ []) (lent 8) ≡ left 8 [] [] (0 ∷ 0 ∷ 0 ∷ 0 ∷ 0 ∷ 0 ∷ 0 ∷ 0 ∷ [])
   -- the first frame that a reader of bits reads
-  pub first-read : read-leaves bit-settings (0 ∷ 0 ∷ []) (frame 4 0x00 0x08 (lent 2)) (lent 6) ≡ left 0 (1 ∷ 4 ∷ []) [] (4 ∷ 0 ∷ 0 ∷ 9 ∷ 8 ∷ 2 ∷ [])
+  pub first-read : read-leaves bit-settings (0 ∷ 0 ∷ 0 ∷ []) (frame 4 0x00 0x08 (lent 2)) (lent 6) ≡ left 0 (1 ∷ 4 ∷ 0 ∷ []) [] (4 ∷ 0 ∷ 0 ∷ 9 ∷ 8 ∷ 2 ∷ [])
 
 -- frames with a trailer: written when the zone is full, and until then as lent; refused by 13, by which nothing changes; a fault for the judge
 pub record Trailers : Type 0 where
@@ -303,8 +320,8 @@ pub record Trailers : Type 0 where
       ≡ left 0 (1 ∷ 2 ∷ 1 ∷ 0 ∷ []) (0xE9 ∷ 0x05 ∷ 0x11 ∷ 0x22 ∷ 0x33 ∷ lent 7) [] ∷ left 0 (2 ∷ 2 ∷ 1 ∷ 0 ∷ []) store [] ∷ []
   pub written : write-leaves bit-settings-trailed (4 ∷ []) (0xAB ∷ []) 8 (lent 13)
       ≡ left 0 (5 ∷ []) (frame 4 0x00 0x07 (0xAB ∷ 0x55 ∷ 0xDD ∷ 0xA6 ∷ 0xFF ∷ [])) []
-  pub read : map (λ (low : ℕ). read-leaves bit-settings-trailed (1 ∷ 3 ∷ []) (frame 4 0x00 0x07 (0xAB ∷ 0x55 ∷ 0xDD ∷ low ∷ [])) (lent 6)) (0xA6 ∷ 0xA7 ∷ [])
-      ≡ left 0 (1 ∷ 4 ∷ []) [] (4 ∷ 0 ∷ 0 ∷ 8 ∷ 8 ∷ 1 ∷ []) ∷ left 13 (1 ∷ 3 ∷ []) [] (0 ∷ 0 ∷ 0 ∷ 0 ∷ 0 ∷ 0 ∷ []) ∷ []
+  pub read : map (λ (low : ℕ). read-leaves bit-settings-trailed (1 ∷ 3 ∷ 1 ∷ []) (frame 4 0x00 0x07 (0xAB ∷ 0x55 ∷ 0xDD ∷ low ∷ [])) (lent 6)) (0xA6 ∷ 0xA7 ∷ [])
+      ≡ left 0 (1 ∷ 4 ∷ 0 ∷ []) [] (4 ∷ 0 ∷ 1 ∷ 8 ∷ 8 ∷ 1 ∷ []) ∷ left 13 (1 ∷ 3 ∷ 1 ∷ []) [] (0 ∷ 0 ∷ 0 ∷ 0 ∷ 0 ∷ 0 ∷ []) ∷ []
 
 pub record InC : Type 0 where
   pub short : Short

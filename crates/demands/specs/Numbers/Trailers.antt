@@ -83,7 +83,7 @@ pub record Refusals : Type 0 where
       ∷ enter-answer small-trailed (InStep 0 0) (lent 12) (lent 20) .answer .refusal
       ∷ []
       ≡ 1 ∷ 2 ∷ 10 ∷ 9 ∷ 13 ∷ []
-  pub bits-last : map (λ c. reading two-trailed (Last c) (lent 12) .refusal) (16777216 ∷ 16777215 ∷ []) ≡ 10 ∷ 13 ∷ []
+  pub bits-last : map (λ c. reading two-trailed (Last c false) (lent 12) .refusal) (16777216 ∷ 16777215 ∷ []) ≡ 10 ∷ 13 ∷ []
 
 -- ---- what is written and read
 
@@ -119,8 +119,8 @@ pub record Outcomes : Type 0 where
   pub bits-written : written two-trailed (record { count = 4 }) (0xAB ∷ []) 8 (lent 13)
       ≡ record { said = record { refusal = 0; writer = record { count = 5 } }; frame = frame 4 0x00 0x07 (0xAB ∷ 0x55 ∷ 0xDD ∷ 0xA6 ∷ 0xFF ∷ []) }
   pub bits-room : map (λ n. written two-trailed (record { count = 4 }) [] 0 (lent n) .said .refusal) (10 ∷ 11 ∷ 12 ∷ []) ≡ 2 ∷ 2 ∷ 0 ∷ []
-  pub bits-read : reading two-trailed (Last 3) (frame 4 0x00 0x07 (0xAB ∷ 0x55 ∷ 0xDD ∷ 0xA6 ∷ [])) ≡ says 4 0 8 false
-  pub bits-refused : reading two-trailed (Last 3) (frame 4 0x00 0x07 (0xAB ∷ 0x55 ∷ 0xDD ∷ 0xA7 ∷ []))
-      ≡ record { refusal = 13; count = 0; replay = 0; bits = 0; lost = false; reader = Last 3 }
+  pub bits-read : reading two-trailed (Last 3 true) (frame 4 0x00 0x07 (0xAB ∷ 0x55 ∷ 0xDD ∷ 0xA6 ∷ [])) ≡ says 4 0 8 true false
+  pub bits-refused : reading two-trailed (Last 3 true) (frame 4 0x00 0x07 (0xAB ∷ 0x55 ∷ 0xDD ∷ 0xA7 ∷ []))
+      ≡ record { refusal = 13; count = 0; replay = 0; bits = 0; lost = false; reader = Last 3 true }
   -- the octets that hold them are the zone's, never the trailer's
   pub leading : map (λ n. leading-octets two-trailed n (frame 4 0x00 0x07 (0xAB ∷ 0x55 ∷ 0xDD ∷ 0xA6 ∷ []))) (8 ∷ 16 ∷ 17 ∷ []) ≡ (0xAB ∷ []) ∷ (0xAB ∷ 0x55 ∷ []) ∷ [] ∷ []
