@@ -513,22 +513,29 @@ ITZ_CALL uint64_t itz_bits_write(const uint64_t *settings, size_t settings_len,
 
 /* The record of a reader of bits, which starts as ITZ_BIT_READER_START. */
 enum {
-    ITZ_BIT_READER_KIND,  /* 0 no frame yet, 1 a frame was read */
-    ITZ_BIT_READER_LAST,  /* count of the last frame read (kind 1) */
+    ITZ_BIT_READER_KIND,     /* 0 no frame yet, 1 a frame was read */
+    ITZ_BIT_READER_LAST,     /* count of the last frame read (kind 1) */
+    ITZ_BIT_READER_WAITING,  /* 1 when a loss waits to be told with bits, else 0 (kind 1) */
     ITZ_BIT_READER_NUMBERS
 };
 
-#define ITZ_BIT_READER_START { 0, 0 }
+#define ITZ_BIT_READER_START { 0, 0, 0 }
 
 /*
  * Reads a frame of bits.
+ *
+ * A frame with bits has the loss flag when any count since the last frame with
+ * bits, its own included, did not follow the one read before it; since the
+ * first frame, where none with bits was read. A frame of fill alone has it
+ * clear: a loss there waits for the next bits. The first frame has none to
+ * follow. A refused frame leaves the record as it was, and what waits with it.
  *
  * Order of refusals: 1, 10, 3, 13, 4, 5, 6, 7.
  */
 enum {
     ITZ_BITS_COUNT,   /* the frame's count */
     ITZ_BITS_REPLAY,  /* its replay flag */
-    ITZ_BITS_LOSS,    /* 1 when this count does not follow the last one, else 0 */
+    ITZ_BITS_LOSS,    /* 1 when frames were lost before these bits, else 0 */
     ITZ_BITS_VALID,   /* number of valid bits */
     ITZ_BITS_START,   /* place in `frame` of the octets that hold them: 8 */
     ITZ_BITS_SIZE,    /* number of those octets, as few as hold the bits */

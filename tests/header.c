@@ -329,10 +329,48 @@ static void bits(void)
     IS(read[ITZ_BITS_SIZE], 1);
     IS(reader[ITZ_BIT_READER_KIND], 1);
     IS(reader[ITZ_BIT_READER_LAST], 7);
+    IS(reader[ITZ_BIT_READER_WAITING], 0);
     bit_frame[5] = 0x00;
     IS(itz_bits_read(ARRAY(bit_settings), ARRAY(reader), SIZED(bit_frame), ARRAY(read)), ITZ_ACCEPTED);
     IS(read[ITZ_BITS_LOSS], 1);
     IS(read[ITZ_BITS_REPLAY], 0);
+    IS(reader[ITZ_BIT_READER_WAITING], 0);
+}
+
+/* Fill behind a gap, the same frame refused, fill that follows, and the bits that tell the loss; then records that no call leaves. */
+static void losses(void)
+{
+    uint8_t fill[BIT_FRAME] = {0x50, 0x83, 0, 0, 2, 0, 0x3F, 0xFE, 0x55, 0x55};
+    uint8_t bit[BIT_FRAME] = {0x50, 0x83, 0, 0, 0, 0, 0x00, 0x00, 0xD5, 0x55};
+    uint64_t reader[ITZ_BIT_READER_NUMBERS] = ITZ_BIT_READER_START;
+    uint64_t read[ITZ_BITS_NUMBERS];
+
+    IS(itz_bits_read(ARRAY(bit_settings), ARRAY(reader), SIZED(bit), ARRAY(read)), ITZ_ACCEPTED);
+    IS(itz_bits_read(ARRAY(bit_settings), ARRAY(reader), SIZED(fill), ARRAY(read)), ITZ_ACCEPTED);
+    IS(read[ITZ_BITS_LOSS], 0);
+    IS(read[ITZ_BITS_VALID], 0);
+    IS(reader[ITZ_BIT_READER_LAST], 2);
+    IS(reader[ITZ_BIT_READER_WAITING], 1);
+    fill[4] = 3;
+    IS(itz_bits_read(ARRAY(bit_settings), ARRAY(reader), SHORT(fill), ARRAY(read)), ITZ_REFUSED_LENGTH);
+    IS(reader[ITZ_BIT_READER_LAST], 2);
+    IS(reader[ITZ_BIT_READER_WAITING], 1);
+    IS(itz_bits_read(ARRAY(bit_settings), ARRAY(reader), SIZED(fill), ARRAY(read)), ITZ_ACCEPTED);
+    IS(read[ITZ_BITS_LOSS], 0);
+    IS(reader[ITZ_BIT_READER_WAITING], 1);
+    bit[4] = 4;
+    IS(itz_bits_read(ARRAY(bit_settings), ARRAY(reader), SIZED(bit), ARRAY(read)), ITZ_ACCEPTED);
+    IS(read[ITZ_BITS_LOSS], 1);
+    IS(reader[ITZ_BIT_READER_WAITING], 0);
+    bit[4] = 5;
+    IS(itz_bits_read(ARRAY(bit_settings), ARRAY(reader), SIZED(bit), ARRAY(read)), ITZ_ACCEPTED);
+    IS(read[ITZ_BITS_LOSS], 0);
+    reader[ITZ_BIT_READER_WAITING] = 2;
+    IS(itz_bits_read(ARRAY(bit_settings), ARRAY(reader), SIZED(bit), ARRAY(read)), ITZ_REFUSED_RECORD);
+    IS(reader[ITZ_BIT_READER_WAITING], 2);
+    reader[ITZ_BIT_READER_KIND] = reader[ITZ_BIT_READER_LAST] = 0;
+    reader[ITZ_BIT_READER_WAITING] = 1;
+    IS(itz_bits_read(ARRAY(bit_settings), ARRAY(reader), SIZED(bit), ARRAY(read)), ITZ_REFUSED_RECORD);
 }
 
 static uint64_t enter_longer(const uint8_t *longer)
@@ -472,6 +510,7 @@ int main(void)
     extracting();
     judging();
     bits();
+    losses();
     trailers();
     bit_trailers();
     relays();

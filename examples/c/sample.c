@@ -5,7 +5,8 @@
  * flush closes the last frame. The frames then go to an extractor, which hands
  * the packets back, and to a judge, which says whether the run is sound. A relay
  * table says where the space packet goes from there. The same run is then sent
- * in frames that end with a trailer, and a bit of it is changed.
+ * in frames that end with a trailer, and a bit of it is changed. Last come bits
+ * on a channel of their own, with a frame lost in the fill between them.
  *
  * `make` beside this file builds it, and the library where it is not there yet.
  */
@@ -142,6 +143,32 @@ static void relay(const uint64_t *table, const uint8_t *packet, size_t size)
     printf("\n");
 }
 
+/* ---- Bits --------------------------------------------------------------- */
+
+#define WIDTH 1
+
+/* Eight bits, three frames of fill and eight bits again. The frame with the count 2 is lost: the bits behind the fill tell it. */
+static void send_bits(void)
+{
+    static const uint64_t channel[ITZ_BIT_SETTINGS_NUMBERS] = {66, 4, WIDTH, 0x55, 0};
+    static const uint8_t octet[] = {0x71};
+    static const uint64_t offered[] = {8, 0, 0, 0, 8};
+    uint64_t writer[ITZ_BIT_WRITER_NUMBERS] = ITZ_BIT_WRITER_START;
+    uint64_t reader[ITZ_BIT_READER_NUMBERS] = ITZ_BIT_READER_START;
+    uint64_t bits[ITZ_BITS_NUMBERS];
+    uint8_t frame[WIDTH + 8];
+    for (size_t i = 0; i < sizeof offered / sizeof offered[0]; i++) {
+        must("write", itz_bits_write(channel, ITZ_BIT_SETTINGS_NUMBERS, writer, ITZ_BIT_WRITER_NUMBERS,
+                                     octet, sizeof octet, offered[i], frame, sizeof frame));
+        if (i == 2)
+            continue;
+        must("read", itz_bits_read(channel, ITZ_BIT_SETTINGS_NUMBERS, reader, ITZ_BIT_READER_NUMBERS,
+                                   frame, sizeof frame, bits, ITZ_BITS_NUMBERS));
+        printf("frame %" PRIu64 " bits %" PRIu64 " loss %" PRIu64 "\n",
+               bits[ITZ_BITS_COUNT], bits[ITZ_BITS_VALID], bits[ITZ_BITS_LOSS]);
+    }
+}
+
 /* ---- The run ------------------------------------------------------------ */
 
 static const uint8_t space[] = {0x00, 0x05, 0xC0, 0x00, 0x00, 0x01, 0xAA, 0xBB};
@@ -184,5 +211,7 @@ int main(void)
     receive_run();
     frames[1][10] ^= 0x01; /* the second frame has one bit changed on its way */
     receive_run();
+
+    send_bits();
     return EXIT_SUCCESS;
 }
