@@ -18,7 +18,7 @@ impl BitSettings {
     pub fn new(spacecraft: u8, channel: u8, width: usize) -> Result<BitSettings, Refusal> {
         let settings = BitSettings { spacecraft, channel, width, fill: FILL, trailer: false };
         // The settings are looked at before the frame, and no frame is empty.
-        let said = ffi::bits_read(&settings.numbers(), &mut [0; 2], &[], &mut [0; 6]);
+        let said = ffi::bits_read(&settings.numbers(), &mut [0; 3], &[], &mut [0; 6]);
         match Refusal::check(said) {
             Err(Refusal::Setting) => Err(Refusal::Setting),
             _ => Ok(settings),
@@ -91,7 +91,8 @@ pub struct Bits<'a> {
     pub count: u32,
     /// Its replay flag.
     pub replay: bool,
-    /// Whether its count does not follow the last one.
+    /// Whether frames were lost since the last frame with bits: a count since then, this one's included, did not follow the one before
+    /// it. A frame without bits has it clear, and a loss there waits for the next bits.
     pub lost: bool,
     /// How many bits it has.
     pub number: usize,
@@ -111,16 +112,17 @@ impl<'a> Bits<'a> {
 #[derive(Clone, Debug)]
 pub struct BitReader {
     settings: BitSettings,
-    record: [u64; 2],
+    record: [u64; 3],
 }
 
 impl BitReader {
     /// A reader that has seen no frame.
     pub fn new(settings: BitSettings) -> BitReader {
-        BitReader { settings, record: [0; 2] }
+        BitReader { settings, record: [0; 3] }
     }
 
-    /// Reads a frame. Refused is one that is not of this channel (`Length` to `Pointer`) or whose trailer is wrong (`Trailer`).
+    /// Reads a frame. Refused is one that is not of this channel (`Length` to `Pointer`) or whose trailer is wrong (`Trailer`); what
+    /// waits to be told stays as it was then.
     pub fn read<'a>(&mut self, frame: &'a [u8]) -> Result<Bits<'a>, Refusal> {
         let mut answer = [0; 6];
         Refusal::check(ffi::bits_read(

@@ -246,6 +246,22 @@ fn bits_go_round() {
 }
 
 #[test]
+fn a_loss_waits_for_bits() {
+    let settings = BitSettings::new(66, 3, 1).unwrap();
+    let mut writer = BitWriter::new(settings);
+    let mut frame = |number| writer.write(&[0x71], number).unwrap();
+    let [first, fill, lost, more, last, next] = [8, 0, 0, 0, 8, 8].map(&mut frame);
+    let mut reader = BitReader::new(settings);
+    let mut told = |frame: &[u8]| reader.read(frame).map(|bits| bits.lost);
+    assert_eq!(told(&first), Ok(false));
+    assert_eq!(told(&fill), Ok(false));
+    assert_eq!(told(&more), Ok(false));
+    assert_eq!(told(&lost[1..]), Err(Refusal::Length));
+    assert_eq!(told(&last), Ok(true));
+    assert_eq!(told(&next), Ok(false));
+}
+
+#[test]
 fn trailers_are_written() {
     let settings = settings().with_trailer(true);
     let mut multiplexer = Multiplexer::new(settings);
