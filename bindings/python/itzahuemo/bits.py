@@ -22,7 +22,7 @@ class BitSettings:
 
     def __post_init__(self) -> None:
         # The settings are looked at before the frame, and no frame is empty.
-        if number_of("bits_read", self.numbers(), answer(2), octets(b""), answer(6)) == Refusal.SETTING:
+        if number_of("bits_read", self.numbers(), answer(3), octets(b""), answer(6)) == Refusal.SETTING:
             raise Refused(Refusal.SETTING)
 
     @property
@@ -52,8 +52,8 @@ class BitWriter:
 
 @dataclass(frozen=True)
 class Bits:
-    """The bits of a frame: its count and replay flag, whether its count does not follow the last one, how many bits it has, and the
-    octets that hold them."""
+    """The bits of a frame: its count and replay flag, whether frames were lost since the last frame with bits, how many bits it has,
+    and the octets that hold them. A frame without bits never says that frames were lost: the next one with bits does."""
 
     count: int
     replay: bool
@@ -70,7 +70,7 @@ class BitReader:
 
     def __init__(self, settings: BitSettings) -> None:
         self.settings = settings
-        self._record = answer(2)
+        self._record = answer(3)
 
     def read(self, frame: Octets) -> Bits:
         """The bits of a frame. One that is not of this channel, or whose trailer is wrong, raises `Refused`."""

@@ -205,6 +205,15 @@ class Calls(unittest.TestCase):
         self.assertEqual(none[6:8], b"\x3f\xfe")
         self.assertEqual(list(reader.read(none)), [])
 
+    def test_a_loss_waits_for_bits(self) -> None:
+        settings = BitSettings(66, 3, 1)
+        writer = BitWriter(settings)
+        first, fill, lost, more, last, after = [writer.write(b"\x71", number) for number in [8, 0, 0, 0, 8, 8]]
+        reader = BitReader(settings)
+        self.assertEqual([reader.read(frame).lost for frame in [first, fill, more]], [False, False, False])
+        self.refused(Refusal.LENGTH, reader.read, lost[1:])
+        self.assertEqual([reader.read(frame).lost for frame in [last, after]], [True, False])
+
     def test_trailers_written(self) -> None:
         self.assertEqual(multiplex(TRAILED, [SPACE, ENCAPSULATION]), TRAILED_FRAMES)
         idle = Multiplexer(TRAILED).idle()
