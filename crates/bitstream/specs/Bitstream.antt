@@ -94,7 +94,7 @@ written s w bits n frame =
 
 -- ---- reading
 
--- the same of a reader: there is no last count, or one that is on the wheel
+-- the same of a reader: there is no last count, or one that is on the wheel, and with it a loss may wait or not
 unfoldable pub reader-reachable : BitSettings → Reader → Bool
 reader-reachable s Fresh = true
 reader-reachable s (Last c waiting) = ltb c (2 ^ count-width (s .link))

@@ -33,7 +33,7 @@ pub record HasBits (s : BitSettings) (n : ℕ) (f : List ℕ) : Type 0 where
   pub same-head : take (zone-at (s .link)) f ≡ headers (s .link) (bit-count s f) (bit-replay s f) (bit-pointer-word (pointer-for s n))
   pub same-again : (i : ℕ) → i < n → bit-at (zone-with s n (leading-octets s n f)) i ≡ bit-at (bit-zone-of s f) i
 
--- what the answers of calls say of a run, each call with the record that the one before it left; and the record after them
+-- what is said of each frame of a run, and the record after it
 pub record RunRead : Type 0 where
   pub said : List BitsSaid
   pub reader : Reader
@@ -42,6 +42,7 @@ pub record RunRead : Type 0 where
 abbrev pub as-said : Reading → BitsSaid
 as-said a = record { refusal = a .refusal; count = a .count; replay = a .replay; bits = a .bits; lost = a .lost }
 
+-- one call for each frame, with the record that the call before it left
 unfoldable pub run-read : BitSettings → Reader → List (List ℕ) → RunRead
 run-read s x [] = record { said = []; reader = x }
 run-read s x (f ∷ fs) =

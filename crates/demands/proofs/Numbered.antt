@@ -295,6 +295,7 @@ losses-told = record {
   again = refl;
   few = refl;
   all = refl;
+  replays = refl;
   refusals = refl;
   refused = refl;
   refused-waits = refl;

@@ -8,5 +8,6 @@ mod Judges
 mod Relays
 mod Bitstreams
 pub mod Theorems
+pub mod Readers
 pub mod Tables
 pub mod Zeros

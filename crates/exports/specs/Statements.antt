@@ -21,6 +21,8 @@ use Rattle.extractor.specs.declared.Extractor.the-variants.{Fresh, Astray, InSt
 use Rattle.judge.specs.Calls.{close-call}
 use Rattle.judge.specs.declared.Judge.{Judge}
 use Rattle.judge.specs.declared.Judge.the-variants.{Open, Sound, Faulty}
+use Rattle.frames.specs.declared.bits.BitSettings.{BitSettings}
+use Rattle.bitstream.specs.Bitstream.{reader-reachable}
 use Rattle.bitstream.specs.declared.Writer.{Writer}
 use Rattle.bitstream.specs.declared.Reader.{Reader}
 use Rattle.bitstream.specs.declared.Reader.the-variants as reader
@@ -74,6 +76,11 @@ pub record StatedAgain (array : List ℕ) : Type 0 where
   pub writer : (w : Writer) → 1 ≤ length array → Word (w .count) → writer-of (told array (w .count ∷ [])) ≡ w
   pub reader : (x : Reader) → 3 ≤ length array → ReaderWords x → reader-of (told array (reader-numbers x)) ≡ x
   pub table : (t : Table) → 65 ≤ length array → TableWords t → table-of (told array (table-numbers t)) ≡ t
+
+-- Refusal 10 of reading bits is exact in arrays: three numbers that pass are those of the record that they state.
+abbrev pub ReadersExact : Type 0
+ReadersExact = (s : BitSettings) (kind last waiting : ℕ) (rest : List ℕ) → reader-reachable s (reader-of (kind ∷ last ∷ waiting ∷ rest)) ≡ true
+    → reader-numbers (reader-of (kind ∷ last ∷ waiting ∷ rest)) ≡ kind ∷ last ∷ waiting ∷ []
 
 -- A list with a destination above 255, in whichever entry, is told by `wide`. A load that is not refused leaves the list's own numbers behind their count, and zeros.
 -- Refusal 10 of routing is exact: a table that a load leaves in an array passes, and one that passes is left again by loading its own entries.

@@ -5,6 +5,7 @@ use mathlib.Core.List.{List, []}
 use Prim.Native.Nat.{ℕ}
 use Rattle.exports.specs.Left.{Left, left}
 use Rattle.exports.proofs.Theorems.{stated-again, parts-named}
+use Rattle.exports.proofs.Readers.{readers-exact}
 use Rattle.exports.proofs.Tables.{tables-loaded}
 use Rattle.exports.proofs.Zeros.{zero-is-refused}
 use Rattle.demands.specs.Promises.{Is}
@@ -81,6 +82,7 @@ of-exports = record {
   relay-load = λ κs entries table. numbers-alone;
   relay-route = λ κs limit table packet destinations answer. no-numbers;
   stated-again = stated-again;
+  readers-exact = readers-exact;
   tables-loaded = tables-loaded;
   parts-named = parts-named;
   refused-keep = refused-keep;

@@ -3,7 +3,7 @@ use Prim.Native.Nat.{ℕ}
 use mathlib.Core.Path.{_≡_}
 use mathlib.Core.List.{List, [], _∷_, _++_, map}
 use mathlib.Core.Bool.{Bool, true, false}
-use lib.ListN.{replicate}
+use lib.ListN.{take, drop, replicate}
 use lib.Dec.{eqb}
 use Rattle.octets.specs.Basics.{pick}
 use Rattle.frames.specs.declared.bits.BitSettings.{BitSettings}
@@ -82,24 +82,31 @@ pub record Frames : Type 0 where
   pub reserved : map (λ low. reading two-octets Fresh (frame 9 0x3F low (lent 2))) (0xFE ∷ 0xFF ∷ []) ≡ says 9 0 0 false false ∷ says 9 0 16 false false ∷ []
   pub replayed : reading two-octets Fresh (0x50 ∷ 0x83 ∷ 1 ∷ 2 ∷ 3 ∷ 0x80 ∷ 0 ∷ 0 ∷ lent 2) ≡ says 0x010203 1 1 false false
   -- a unit with bits has the flag where its count does not follow the last one, or a loss waits; after it none waits
-  pub follows : map (λ last. reading two-octets (Last last false) (frame 0 0x00 0 (lent 2))) (16777215 ∷ 0 ∷ 16777214 ∷ [])
-      ≡ says 0 0 1 false false ∷ says 0 0 1 true false ∷ says 0 0 1 true false ∷ []
+  pub follows : map (λ last. reading two-octets (Last last false) (frame 0 0x00 0 (lent 2))) (16777215 ∷ 0 ∷ 16777214 ∷ 255 ∷ 65535 ∷ 8388607 ∷ [])
+      ≡ says 0 0 1 false false ∷ replicate 5 (says 0 0 1 true false)
   pub waited : map (λ last. reading two-octets (Last last true) (frame 0 0x00 0 (lent 2))) (16777215 ∷ 0 ∷ 16777214 ∷ []) ≡ replicate 3 (says 0 0 1 true false)
   -- a unit of fill alone hands over no bits and has the flag clear; what is lost waits
-  pub fill-alone : map (λ last. reading two-octets (Last last false) (frame 0 0x3F 0xFE (lent 2))) (16777215 ∷ 0 ∷ 5 ∷ [])
-      ≡ says 0 0 0 false false ∷ says 0 0 0 false true ∷ says 0 0 0 false true ∷ []
+  pub fill-alone : map (λ last. reading two-octets (Last last false) (frame 0 0x3F 0xFE (lent 2))) (16777215 ∷ 0 ∷ 5 ∷ 255 ∷ 65535 ∷ 8388607 ∷ [])
+      ≡ says 0 0 0 false false ∷ replicate 5 (says 0 0 0 false true)
   pub fill-waits : map (λ last. reading two-octets (Last last true) (frame 0 0x3F 0xFE (lent 2))) (16777215 ∷ 0 ∷ 5 ∷ []) ≡ replicate 3 (says 0 0 0 false true)
   -- as few octets as hold the bits; none for more than the zone has, or of another frame
   pub leading : map (λ n. leading-octets two-octets n (frame 0 0 0 (0xA1 ∷ 0xA2 ∷ []))) (0 ∷ 1 ∷ 8 ∷ 9 ∷ 16 ∷ 17 ∷ [])
       ≡ [] ∷ (0xA1 ∷ []) ∷ (0xA1 ∷ []) ∷ (0xA1 ∷ 0xA2 ∷ []) ∷ (0xA1 ∷ 0xA2 ∷ []) ∷ [] ∷ []
   pub other-length : leading-octets two-octets 1 (frame 0 0 0 (lent 3)) ≡ []
 
--- frames of fill alone and with bits, by the last octet of the count; and frames refused by 3 to 7, with the count 9
+-- frames of fill alone and with bits, by the last octet of the count; fill at the wheel's end; the same frame replayed; and frames refused by 3 to 7,
+-- with the count 9
 abbrev pub fill : ℕ → List ℕ
 fill count = frame count 0x3F 0xFE (lent 2)
 
 abbrev pub bits : ℕ → List ℕ
 bits count = frame count 0x00 0x00 (lent 2)
+
+abbrev pub late : ℕ → List ℕ
+late count = 0x50 ∷ 0x83 ∷ 0xFF ∷ 0xFF ∷ count ∷ 0x00 ∷ 0x3F ∷ 0xFE ∷ lent 2
+
+abbrev pub replayed : List ℕ → List ℕ
+replayed f = take 5 f ++ (0x80 ∷ drop 6 f)
 
 abbrev pub unreadable : List (List ℕ)
 unreadable =
@@ -123,11 +130,12 @@ flags fs = flags-in (run fs .said)
 
 -- Document 02's request L3, run by run.
 pub record Losses : Type 0 where
-  -- nothing is lost: bits and fill in turn, round the wheel too; the first frame has none to follow
+  -- nothing is lost: bits and fill in turn; the first frame has none to follow
   pub in-step : map flags ((bits 0 ∷ fill 1 ∷ bits 2 ∷ bits 3 ∷ []) ∷ (fill 7 ∷ fill 8 ∷ bits 9 ∷ []) ∷ (bits 7 ∷ bits 8 ∷ []) ∷ [])
       ≡ replicate 4 false ∷ replicate 3 false ∷ replicate 2 false ∷ []
-  pub wheel : map flags (((0x50 ∷ 0x83 ∷ 0xFF ∷ 0xFF ∷ 0xFF ∷ 0x00 ∷ 0x3F ∷ 0xFE ∷ lent 2) ∷ fill 0 ∷ bits 1 ∷ []) ∷ ((0x50 ∷ 0x83 ∷ 0xFF ∷ 0xFF ∷ 0xFF ∷ 0x00 ∷ 0x3F ∷ 0xFE ∷ lent 2) ∷ fill 1 ∷ bits 2 ∷ []) ∷ [])
-      ≡ replicate 3 false ∷ (false ∷ false ∷ true ∷ []) ∷ []
+  -- round the wheel: nothing is lost; frame 0 is; and one before the wheel turns
+  pub wheel : map flags ((late 0xFF ∷ fill 0 ∷ bits 1 ∷ []) ∷ (late 0xFF ∷ fill 1 ∷ bits 2 ∷ []) ∷ (late 0xFD ∷ late 0xFF ∷ fill 0 ∷ bits 1 ∷ []) ∷ [])
+      ≡ replicate 3 false ∷ (false ∷ false ∷ true ∷ []) ∷ (false ∷ false ∷ false ∷ true ∷ []) ∷ []
   -- frame 2 is lost in fill: the next bits tell it, and no others
   pub in-fill : flags (bits 0 ∷ fill 1 ∷ fill 3 ∷ fill 4 ∷ fill 5 ∷ bits 6 ∷ bits 7 ∷ fill 8 ∷ bits 9 ∷ [])
       ≡ false ∷ false ∷ false ∷ false ∷ false ∷ true ∷ false ∷ false ∷ false ∷ []
@@ -147,6 +155,9 @@ pub record Losses : Type 0 where
   -- a unit has bits from one on; with all of them too
   pub few : map (λ low. flags (bits 0 ∷ fill 2 ∷ frame 3 0x00 low (lent 2) ∷ bits 4 ∷ [])) (0 ∷ 14 ∷ []) ≡ replicate 2 (false ∷ false ∷ true ∷ false ∷ [])
   pub all : flags (bits 0 ∷ fill 2 ∷ frame 3 0x3F 0xFF (lent 2) ∷ bits 4 ∷ []) ≡ false ∷ false ∷ true ∷ false ∷ []
+  -- replayed frames follow, fail to and tell as all others
+  pub replays : map flags ((bits 0 ∷ replayed (fill 1) ∷ replayed (bits 2) ∷ []) ∷ (bits 0 ∷ replayed (fill 2) ∷ bits 3 ∷ []) ∷ (bits 0 ∷ fill 2 ∷ replayed (bits 3) ∷ []) ∷ [])
+      ≡ replicate 3 false ∷ replicate 2 (false ∷ false ∷ true ∷ [])
   -- refused frames say their number, and nothing follows them or fails to
   pub refusals : map (λ (a : BitsSaid). a .refusal) (run (bits 0 ∷ unreadable) .said) ≡ 0 ∷ 3 ∷ 4 ∷ 5 ∷ 6 ∷ 7 ∷ []
   pub refused : map (λ (f : List ℕ). flags (f ∷ bits 0 ∷ f ∷ fill 1 ∷ f ∷ bits 2 ∷ f ∷ bits 3 ∷ [])) unreadable ≡ replicate 5 (replicate 4 false)

@@ -13,7 +13,7 @@ use Rattle.exports.specs.Extract.{enter-leaves, step-leaves, show-leaves}
 use Rattle.exports.specs.Judging.{judge-leaves, close-leaves}
 use Rattle.exports.specs.Bits.{write-leaves, read-leaves}
 use Rattle.exports.specs.Relaying.{load-leaves, route-leaves}
-use Rattle.exports.specs.Statements.{StatedAgain, TablesLoaded, PartsNamed, ZeroIsRefused}
+use Rattle.exports.specs.Statements.{StatedAgain, ReadersExact, TablesLoaded, PartsNamed, ZeroIsRefused}
 use Rattle.exports.proofs.itz_read_header.Reads as read-header-fn
 use Rattle.exports.proofs.itz_well_formed.Reads as well-formed-fn
 use Rattle.exports.proofs.itz_wrap.Reads as wrap-fn
@@ -144,6 +144,7 @@ pub record OfExports : Type 0 where
       → Is (leaving NoNumbers (relay-route-fn.Pre κs (limit, (table, (packet, (destinations, (answer, tt)))))) (λ o. relay-route-fn.Post κs (limit, (table, (packet, (destinations, (answer, tt))))) (o .refusal) (limit, (table, (packet, (at-last destinations (o .octets), (at-last answer (o .answer), tt)))))))
       (route-leaves limit (now table) (now packet) (now destinations) (now answer))
   pub stated-again : (array : List ℕ) → StatedAgain array
+  pub readers-exact : ReadersExact
   pub tables-loaded : TablesLoaded
   pub parts-named : (array : List ℕ) → PartsNamed array
   pub refused-keep : RefusedKeep
