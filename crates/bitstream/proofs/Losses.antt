@@ -1,17 +1,22 @@
 -- The calls' loss flag is the rule's over the whole run.
 -- Assumes nothing.
-use mathlib.Core.Path.{_≡_, refl, sym, ap, _∙_}
-use mathlib.Core.List.{List, [], _∷_}
+use mathlib.Core.Logic.{_↔_, _⊎_, inl, inr}
+use mathlib.Core.Path.{_≡_, refl, sym, ap}
+use mathlib.Core.List.{List, [], _∷_, _++_}
 use mathlib.Core.Bool.{Bool, true, false, not}
-use Prim.Native.Nat.{ℕ}
+use Prim.Native.Nat.{ℕ, _<_}
+use native.Mathlib.Omega.{arith}
 use lib.Dec.{eqb}
-use Rattle.octets.specs.Basics.{pick, and, first}
-use Rattle.octets.proofs.Choices.{and-false}
+use borrow.Author.Tests.{eq-eqb, ne-eqb, eqb-true, eqb-false, not-true}
+use Rattle.octets.specs.Basics.{pick, and, first, All}
+use Rattle.octets.proofs.Choices.{and-false, or-true, apart}
+use Rattle.octets.proofs.Tests.{test, or-all}
 use Rattle.frames.specs.BitFrame.{bit-heading-rows}
 use Rattle.frames.specs.declared.bits.BitSettings.{BitSettings}
+use Rattle.frames.proofs.Wheel.{none-missing}
 use Rattle.bitstream.specs.Bitstream.{reader-reachable, read-rows, untold, loss-flag, next-reader, reading}
 use Rattle.bitstream.specs.Loss.{BitUnit, follows, since-bits, any-lost, flag, unit-of, units-with, units-after, frame-said, run-said}
-use Rattle.bitstream.specs.Statements.{RunRead, as-said, run-read, reader-for, LossesWait}
+use Rattle.bitstream.specs.Statements.{RunRead, as-said, run-read, reader-for, LostInFill, LossesWait}
 use Rattle.bitstream.specs.declared.Reader.{Reader}
 use Rattle.bitstream.specs.declared.Reader.the-variants.{Last}
 use Rattle.bitstream.proofs.Reached.{reader-kept}
@@ -21,11 +26,11 @@ module _ (s : BitSettings) (us : List BitUnit) (f : List ℕ) where
   abbrev before : Reader
   before = reader-for us
 
-  abbrev u : BitUnit
-  u = unit-of s us f
+  abbrev unit : BitUnit
+  unit = unit-of s us f
 
   -- what is to be told with it is whether any count since the last unit with bits did not follow
-  untold-since : untold s before (u .count) ≡ any-lost (u ∷ since-bits us)
+  untold-since : untold s before (unit .count) ≡ any-lost (unit ∷ since-bits us)
   unfolding untold reader-for any-lost since-bits follows
   untold-since = go us
     where
@@ -33,20 +38,20 @@ module _ (s : BitSettings) (us : List BitUnit) (f : List ℕ) where
       go [] = refl
       go (v ∷ vs) = refl
 
-  flag-is : loss-flag s before (u .count) (u .bits) ≡ flag u us
+  flag-is : loss-flag s before (unit .count) (unit .bits) ≡ flag unit us
   unfolding loss-flag flag
-  flag-is = rw untold-since (go (eqb (u .bits) 0) (any-lost (u ∷ since-bits us)))
+  flag-is = rw untold-since (go (eqb (unit .bits) 0) (any-lost (unit ∷ since-bits us)))
     where
       go : (t b : Bool) → and b (not t) ≡ pick t false b
       go true b = and-false b
       go false true = refl
       go false false = refl
 
-  next-is : next-reader s before (u .count) (u .bits) ≡ reader-for (u ∷ us)
+  next-is : next-reader s before (unit .count) (unit .bits) ≡ reader-for (unit ∷ us)
   unfolding next-reader reader-for since-bits any-lost
-  next-is = ap (Last (u .count)) (rw untold-since (go (eqb (u .bits) 0) (any-lost (u ∷ since-bits us)) refl))
+  next-is = ap (Last (unit .count)) (rw untold-since (go (eqb (unit .bits) 0) (any-lost (unit ∷ since-bits us)) refl))
     where
-      go : (t b : Bool) → any-lost (u ∷ since-bits us) ≡ b → and b t ≡ any-lost (pick t (u ∷ since-bits us) [])
+      go : (t b : Bool) → any-lost (unit ∷ since-bits us) ≡ b → and b t ≡ any-lost (pick t (unit ∷ since-bits us) [])
       go true true e = sym e
       go true false e = sym e
       go false b e = and-false b
@@ -85,10 +90,73 @@ all-said s us (f ∷ fs) passes =
     let kept : reader-reachable s (reader-for (units-with s us f)) ≡ true = rw (one-left s us f passes) at (reader-kept s (reader-for us) f passes) in
     rw (one-said s us f passes, one-left s us f passes, all-said s (units-with s us f) fs kept) refl
 
+-- ---- what the rule comes to
+
+found : (u : BitUnit) (us : List BitUnit) → u .bits ≡ 0 → (any-lost (since-bits us) ≡ true → LostInFill us)
+    → (u .followed ≡ false) ⊎ (any-lost (since-bits us) ≡ true) → LostInFill (u ∷ us)
+found u us none older (inl e) = record { behind = []; unit = u; older = us; place = refl; alone = (none, tt); lost = e }
+found u us none older (inr e) =
+    let l : LostInFill us = older e in
+    record {
+      behind = u ∷ l .behind;
+      unit = l .unit;
+      older = l .older;
+      place = ap (λ (vs : List BitUnit). u ∷ vs) (l .place);
+      alone = (l .alone .0, (none, l .alone .1));
+      lost = l .lost;
+    }
+
+-- a count that did not follow, or one of the others
+one-lost : (u : BitUnit) (us : List BitUnit) → any-lost (u ∷ us) ≡ true → (u .followed ≡ false) ⊎ (any-lost us ≡ true)
+unfolding any-lost
+one-lost u us e = go (or-true (not (u .followed)) (any-lost us) e)
+  where
+    go : (not (u .followed) ≡ true) ⊎ (any-lost us ≡ true) → (u .followed ≡ false) ⊎ (any-lost us ≡ true)
+    go (inl h) = inl (not-true (u .followed) h)
+    go (inr h) = inr h
+
+lost-in-fill : (us : List BitUnit) → any-lost (since-bits us) ≡ true → LostInFill us
+unfolding since-bits any-lost
+lost-in-fill [] e = apart (cc e)
+lost-in-fill (u ∷ us) e =
+    test (eqb (u .bits) 0)
+    (λ t. found u us (eqb-true (u .bits) 0 t) (lost-in-fill us) (one-lost u (since-bits us) (rw t at e)))
+    (λ t. apart (cc (rw t at e)))
+
+fill-lost : (behind : List BitUnit) (u : BitUnit) (older : List BitUnit) → All (λ (w : BitUnit). w .bits ≡ 0) (u ∷ behind) → u .followed ≡ false
+    → any-lost (since-bits (behind ++ (u ∷ older))) ≡ true
+unfolding since-bits any-lost
+fill-lost [] u older alone e = rw (eq-eqb (u .bits) 0 (alone .0), e) refl
+fill-lost (w ∷ behind) u older alone e =
+    rw (eq-eqb (w .bits) 0 (alone .1 .0), fill-lost behind u older (alone .0, alone .1 .1) e) (or-all (not (w .followed)))
+
+set-by : (u : BitUnit) (us : List BitUnit) → (u .followed ≡ false) ⊎ LostInFill us → any-lost (u ∷ since-bits us) ≡ true
+unfolding any-lost
+set-by u us (inl e) = rw e refl
+set-by u us (inr l) = rw (l .place, fill-lost (l .behind) (l .unit) (l .older) (l .alone) (l .lost)) (or-all (not (u .followed)))
+
+set-exactly : (u : BitUnit) (us : List BitUnit) → (flag u us ≡ true) ↔ ((0 < u .bits) × ((u .followed ≡ false) ⊎ LostInFill us))
+unfolding flag
+set-exactly u us = (
+  (λ e.
+      test (eqb (u .bits) 0)
+      (λ t. apart (cc (rw t at e)))
+      (λ t. (omega (arith, eqb-false (u .bits) 0 t), told (one-lost u (since-bits us) (rw t at e))))),
+  (λ h. rw (ne-eqb (u .bits) 0 (omega arith)) (set-by u us (h .1))),
+)
+  where
+    told : (u .followed ≡ false) ⊎ (any-lost (since-bits us) ≡ true) → (u .followed ≡ false) ⊎ LostInFill us
+    told (inl h) = inl h
+    told (inr h) = inr (lost-in-fill us h)
+
 -- THE FLAG WAITS FOR BITS
 pub losses-wait : LossesWait
-unfolding reader-for reader-reachable
+unfolding reader-for reader-reachable follows
 losses-wait = record {
   said = λ s fs. ap (λ (r : RunRead). r .said) (all-said s [] fs refl);
   left = λ s fs. ap (λ (r : RunRead). r .reader) (all-said s [] fs refl);
+  exactly = set-exactly;
+  wheel = λ width c u us small.
+      let same = none-missing width (u .count) c small in
+      ((λ e. same .1 (eqb-true c _ e)), (λ e. eq-eqb c _ (same .0 e)));
 }

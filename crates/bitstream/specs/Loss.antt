@@ -32,8 +32,7 @@ unfoldable pub any-lost : List BitUnit → Bool
 any-lost [] = false
 any-lost (u ∷ us) = or (not (u .followed)) (any-lost us)
 
--- the loss flag of a unit behind those read before it: clear without bits; with bits set when any count since the last unit with bits, its own
--- included, did not follow
+-- a unit's loss flag behind those read before it: with bits, whether any count since the last unit with bits, its own included, did not follow; else clear
 unfoldable pub flag : BitUnit → List BitUnit → Bool
 flag u us = pick (eqb (u .bits) 0) false (any-lost (u ∷ since-bits us))
 

@@ -1,16 +1,16 @@
 -- What is shown of the bitstream channel, over the rules of Bitstream.
-use mathlib.Core.Logic.{_↔_}
+use mathlib.Core.Logic.{_↔_, _⊎_}
 use mathlib.Core.Path.{_≡_}
-use Prim.Native.Nat.{ℕ, _+_, _*_, _≤_, _<_}
-use mathlib.Core.List.{List, [], _∷_}
-use mathlib.Core.Bool.{true}
+use Prim.Native.Nat.{ℕ, _+_, _*_, _^_, _≤_, _<_}
+use mathlib.Core.List.{List, [], _∷_, _++_}
+use mathlib.Core.Bool.{true, false}
 use lib.ListN.{length, take}
-use Rattle.octets.specs.Basics.{AllOctets}
-use Rattle.frames.specs.Link.{zone-at, headers}
+use Rattle.octets.specs.Basics.{All, AllOctets}
+use Rattle.frames.specs.Link.{zone-at, headers, missing}
 use Rattle.frames.specs.BitFrame.{bits-in-range, bit-zone-of, bit-count, bit-replay, bit-pointer-word, most-bits}
 use Rattle.frames.specs.declared.bits.BitSettings.{BitSettings}
 use Rattle.bitstream.specs.Bitstream.{octets-for, bit-at, pointer-for, zone-with, begun, writer-reachable, written, reader-reachable, loss-flag, next-reader, reading, leading-octets}
-use Rattle.bitstream.specs.Loss.{BitUnit, since-bits, any-lost, units-after, BitsSaid, run-said}
+use Rattle.bitstream.specs.Loss.{BitUnit, follows, since-bits, any-lost, flag, units-after, BitsSaid, run-said}
 use Rattle.bitstream.specs.declared.Writer.{Writer}
 use Rattle.bitstream.specs.declared.Reader.{Reader}
 use Rattle.bitstream.specs.declared.Reader.the-variants.{Fresh, Last}
@@ -55,11 +55,24 @@ unfoldable pub reader-for : List BitUnit → Reader
 reader-for [] = Fresh
 reader-for (u ∷ us) = Last (u .count) (any-lost (since-bits (u ∷ us)))
 
+-- among the units read there is one whose count did not follow, fill alone as are all behind it
+pub record LostInFill (us : List BitUnit) : Type 0 where
+  pub behind : List BitUnit
+  pub unit : BitUnit
+  pub older : List BitUnit
+  pub place : us ≡ behind ++ (unit ∷ older)
+  pub alone : All (λ (u : BitUnit). u .bits ≡ 0) (unit ∷ behind)
+  pub lost : unit .followed ≡ false
+
 -- From a fresh record, with nothing touched between calls, the calls say of every frame of any run what the rule gives, refused frames
 -- among them; and the record after them stands for the units read.
 pub record LossesWait : Type 0 where
   pub said : (s : BitSettings) (fs : List (List ℕ)) → run-read s Fresh fs .said ≡ run-said s [] fs
   pub left : (s : BitSettings) (fs : List (List ℕ)) → run-read s Fresh fs .reader ≡ reader-for (units-after s [] fs)
+  -- what the rule comes to, however long the fill and the gap: the flag is set exactly with bits whose own count did not follow or that come behind
+  -- a loss in fill; and a count follows exactly where no frame is missing round the wheel
+  pub exactly : (u : BitUnit) (us : List BitUnit) → (flag u us ≡ true) ↔ ((0 < u .bits) × ((u .followed ≡ false) ⊎ LostInFill us))
+  pub wheel : (width c : ℕ) (u : BitUnit) (us : List BitUnit) → c < 2 ^ width → (follows width (u ∷ us) c ≡ true) ↔ (missing width (u .count) c ≡ 0)
 
 -- the records that any calls lead to, refused or not, from the first on
 pub data WriterReached (s : BitSettings) : Writer → Type 0 where
