@@ -1,4 +1,4 @@
--- Demand 2: what is written means what document 01 says when it is read, the list, and the events.
+-- Demand 2: what is written means what documents 01 and 02 say when it is read, the list, and the events.
 use Prim.Native.Nat.{ℕ, _+_, _%_, _^_, _≤_, _<_}
 use mathlib.Core.Path.{_≡_}
 use mathlib.Core.List.{List}

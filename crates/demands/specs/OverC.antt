@@ -32,7 +32,7 @@ use Rattle.demands.specs.Demand3.{Smooth}
 use Rattle.demands.specs.OverC.Sending.{as-sending, run-in-c}
 use Rattle.demands.specs.OverC.Listening.{Holding, holding, zeroed, Inside, as-finds, FrameInC, frame-in-c, as-listened, listen-in-c}
 use Rattle.demands.specs.OverC.Judging.{as-calls, judge-in-c, close-in-c}
-use Rattle.demands.specs.OverC.Reading.{unread, read-in-c}
+use Rattle.demands.specs.OverC.Reading.{reader-zeroed, read-in-c}
 pub mod Sending
 pub mod Listening
 pub mod Judging
@@ -101,7 +101,7 @@ pub record Demand2InC (settings : List ℕ) (s : Settings) : Type 0 where
 abbrev pub LossesInC : List ℕ → BitSettings → Type 0
 LossesInC settings s =
     (array answer : List ℕ) (fs : List (List ℕ)) → 3 ≤ length array → 6 ≤ length answer
-    → read-in-c settings (unread array) answer fs ≡ run-said s [] fs
+    → read-in-c settings (reader-zeroed array) answer fs ≡ run-said s [] fs
 
 -- Demand 3: no call of the judge is refused; the answer says pass exactly when some list is carried; and that list is handed over
 pub record JudgesInC (settings : List ℕ) (s : Settings) (array store answer : List ℕ) (fs : List (List ℕ)) : Type 0 where

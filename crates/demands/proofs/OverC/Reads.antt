@@ -27,7 +27,7 @@ use Rattle.exports.specs.Bits.{bit-settings-numbers, bit-settings-of, bits-shor
 use Rattle.exports.specs.Statements.{ReaderWords}
 use Rattle.exports.proofs.Theorems.{stated-again}
 use Rattle.demands.specs.OverC.{LossesInC}
-use Rattle.demands.specs.OverC.Reading.{unread, read-unit, read-in-c}
+use Rattle.demands.specs.OverC.Reading.{reader-zeroed, read-unit, read-in-c}
 use Rattle.demands.proofs.OverC.Arrays.{flag-back, told-front, told-long, kept-long}
 
 -- a record that passes the test for refusal 10 has a count of 32 bits
@@ -93,9 +93,9 @@ module _ (settings : List ℕ) (stated : bit-settings-numbers ≤ length setting
   pub losses-in-c : LossesInC settings s
   unfolding reader-numbers
   losses-in-c array answer fs long h =
-      all-read fs (unread array) answer (rw (told-long array (0 ∷ 0 ∷ 0 ∷ [])) long) h
+      all-read fs (reader-zeroed array) answer (rw (told-long array (0 ∷ 0 ∷ 0 ∷ [])) long) h
       ∙ ap (λ (x : Reader). run-read s x fs .said) starts
       ∙ losses-wait .said s fs
     where
-      starts : reader-of (unread array) ≡ Fresh
+      starts : reader-of (reader-zeroed array) ≡ Fresh
       starts = stated-again array .reader Fresh long tt

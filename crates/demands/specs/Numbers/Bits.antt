@@ -1,5 +1,5 @@
 -- The bitstream channel: what writing and reading are refused for, the frames that are written, and what is read of them.
-use Prim.Native.Nat.{ℕ}
+use Prim.Native.Nat.{ℕ, zero, suc}
 use mathlib.Core.Path.{_≡_}
 use mathlib.Core.List.{List, [], _∷_, _++_, map}
 use mathlib.Core.Bool.{Bool, true, false}
@@ -7,13 +7,13 @@ use lib.ListN.{take, drop, replicate}
 use lib.Dec.{eqb}
 use Rattle.octets.specs.Basics.{pick}
 use Rattle.frames.specs.declared.bits.BitSettings.{BitSettings}
-use Rattle.bitstream.specs.Bitstream.{begun, Wrote, written, reading, leading-octets}
+use Rattle.bitstream.specs.Bitstream.{begun, frame-with, Wrote, written, reading, leading-octets}
 use Rattle.bitstream.specs.Loss.{BitsSaid}
 use Rattle.bitstream.specs.Statements.{RunRead, run-read}
 use Rattle.bitstream.specs.declared.Reader.{Reader}
 use Rattle.bitstream.specs.declared.Reader.the-variants.{Fresh, Last}
 use Rattle.bitstream.specs.declared.Reading.{Reading}
-use Rattle.demands.specs.Numbers.Samples.{set-bits, two-octets, no-octets, frame, wrong-headers, lent}
+use Rattle.demands.specs.Numbers.Samples.{set-bits, two-octets, two-trailed, no-octets, frame, wrong-headers, lent}
 
 -- with a writer of this count, so many octets of bits, n bits, and a frame of so much room
 abbrev pub refuses-write : BitSettings → ℕ → ℕ → ℕ → ℕ → ℕ
@@ -63,6 +63,10 @@ wrote count octets = record { said = record { refusal = 0; writer = record { cou
 abbrev pub says : ℕ → ℕ → ℕ → Bool → Bool → Reading
 says count replay bits lost waiting = record { refusal = 0; count = count; replay = replay; bits = bits; lost = lost; reader = Last count waiting }
 
+-- last counts that 0 does not follow: 1, 2, 256, 65,536 and half the wheel's frames are missing; and the same count and some behind it
+abbrev pub not-before : List ℕ
+not-before = 16777214 ∷ 16777213 ∷ 16776959 ∷ 16711679 ∷ 8388608 ∷ 8388607 ∷ 65535 ∷ 255 ∷ 1 ∷ 0 ∷ []
+
 pub record Frames : Type 0 where
   pub begins : begun ≡ record { count = 0 }
   -- no bits, then 1, 8, 9, 15 and 16 of them: the pointer, the bits, and fill at the same places, which is 55
@@ -82,12 +86,12 @@ pub record Frames : Type 0 where
   pub reserved : map (λ low. reading two-octets Fresh (frame 9 0x3F low (lent 2))) (0xFE ∷ 0xFF ∷ []) ≡ says 9 0 0 false false ∷ says 9 0 16 false false ∷ []
   pub replayed : reading two-octets Fresh (0x50 ∷ 0x83 ∷ 1 ∷ 2 ∷ 3 ∷ 0x80 ∷ 0 ∷ 0 ∷ lent 2) ≡ says 0x010203 1 1 false false
   -- a unit with bits has the flag where its count does not follow the last one, or a loss waits; after it none waits
-  pub follows : map (λ last. reading two-octets (Last last false) (frame 0 0x00 0 (lent 2))) (16777215 ∷ 0 ∷ 16777214 ∷ 255 ∷ 65535 ∷ 8388607 ∷ [])
-      ≡ says 0 0 1 false false ∷ replicate 5 (says 0 0 1 true false)
+  pub follows : map (λ last. reading two-octets (Last last false) (frame 0 0x00 0 (lent 2))) (16777215 ∷ not-before)
+      ≡ says 0 0 1 false false ∷ replicate 10 (says 0 0 1 true false)
   pub waited : map (λ last. reading two-octets (Last last true) (frame 0 0x00 0 (lent 2))) (16777215 ∷ 0 ∷ 16777214 ∷ []) ≡ replicate 3 (says 0 0 1 true false)
   -- a unit of fill alone hands over no bits and has the flag clear; what is lost waits
-  pub fill-alone : map (λ last. reading two-octets (Last last false) (frame 0 0x3F 0xFE (lent 2))) (16777215 ∷ 0 ∷ 5 ∷ 255 ∷ 65535 ∷ 8388607 ∷ [])
-      ≡ says 0 0 0 false false ∷ replicate 5 (says 0 0 0 false true)
+  pub fill-alone : map (λ last. reading two-octets (Last last false) (frame 0 0x3F 0xFE (lent 2))) (16777215 ∷ not-before)
+      ≡ says 0 0 0 false false ∷ replicate 10 (says 0 0 0 false true)
   pub fill-waits : map (λ last. reading two-octets (Last last true) (frame 0 0x3F 0xFE (lent 2))) (16777215 ∷ 0 ∷ 5 ∷ []) ≡ replicate 3 (says 0 0 0 false true)
   -- as few octets as hold the bits; none for more than the zone has, or of another frame
   pub leading : map (λ n. leading-octets two-octets n (frame 0 0 0 (0xA1 ∷ 0xA2 ∷ []))) (0 ∷ 1 ∷ 8 ∷ 9 ∷ 16 ∷ 17 ∷ [])
@@ -117,6 +121,15 @@ unreadable =
     ∷ frame 9 0x00 0x0F (lent 2)
     ∷ []
 
+-- so many counts from c on
+abbrev pub counts : ℕ → ℕ → List ℕ
+counts zero c = []
+counts (suc k) c = c ∷ counts k (suc c)
+
+-- frame 8 is lost in the fill of a channel
+abbrev pub lost-in-fill : BitSettings → List (List ℕ)
+lost-in-fill s = map (λ c. frame-with s c 0 []) (7 ∷ 9 ∷ 10 ∷ []) ++ map (λ c. frame-with s c 1 (0x80 ∷ [])) (11 ∷ 12 ∷ [])
+
 -- the flags of a run, of its frames that are not refused; and what is left
 abbrev pub run : List (List ℕ) → RunRead
 run fs = run-read two-octets Fresh fs
@@ -139,6 +152,10 @@ pub record Losses : Type 0 where
   -- frame 2 is lost in fill: the next bits tell it, and no others
   pub in-fill : flags (bits 0 ∷ fill 1 ∷ fill 3 ∷ fill 4 ∷ fill 5 ∷ bits 6 ∷ bits 7 ∷ fill 8 ∷ bits 9 ∷ [])
       ≡ false ∷ false ∷ false ∷ false ∷ false ∷ true ∷ false ∷ false ∷ false ∷ []
+  -- however long the fill
+  pub long-fill : flags (bits 0 ∷ (map fill (counts 250 2) ++ (bits 252 ∷ bits 253 ∷ []))) ≡ replicate 251 false ++ (true ∷ false ∷ [])
+  -- in zones of one and of four octets, and with trailers
+  pub channels : map (λ (s : BitSettings). flags-in (run-read s Fresh (lost-in-fill s) .said)) (set-bits 5 3 1 ∷ set-bits 255 62 4 ∷ two-trailed ∷ []) ≡ replicate 3 (false ∷ false ∷ false ∷ true ∷ false ∷ [])
   -- two are lost in one fill, and one there and one at the bits: told once
   pub two : map flags ((bits 0 ∷ fill 2 ∷ fill 4 ∷ bits 5 ∷ bits 6 ∷ []) ∷ (bits 0 ∷ fill 1 ∷ fill 3 ∷ bits 5 ∷ bits 6 ∷ []) ∷ [])
       ≡ replicate 2 (false ∷ false ∷ false ∷ true ∷ false ∷ [])
@@ -153,11 +170,11 @@ pub record Losses : Type 0 where
   pub again : map flags ((bits 4 ∷ fill 5 ∷ fill 5 ∷ bits 6 ∷ []) ∷ (bits 4 ∷ fill 5 ∷ fill 4 ∷ bits 5 ∷ []) ∷ (bits 4 ∷ fill 5 ∷ bits 6 ∷ bits 6 ∷ []) ∷ [])
       ≡ replicate 3 (false ∷ false ∷ false ∷ true ∷ [])
   -- a unit has bits from one on; with all of them too
-  pub few : map (λ low. flags (bits 0 ∷ fill 2 ∷ frame 3 0x00 low (lent 2) ∷ bits 4 ∷ [])) (0 ∷ 14 ∷ []) ≡ replicate 2 (false ∷ false ∷ true ∷ false ∷ [])
+  pub few : map (λ low. flags (bits 0 ∷ fill 2 ∷ frame 3 0x00 low (lent 2) ∷ bits 4 ∷ [])) (0 ∷ 1 ∷ 6 ∷ 7 ∷ 8 ∷ 14 ∷ []) ≡ replicate 6 (false ∷ false ∷ true ∷ false ∷ [])
   pub all : flags (bits 0 ∷ fill 2 ∷ frame 3 0x3F 0xFF (lent 2) ∷ bits 4 ∷ []) ≡ false ∷ false ∷ true ∷ false ∷ []
   -- replayed frames follow, fail to and tell as all others
-  pub replays : map flags ((bits 0 ∷ replayed (fill 1) ∷ replayed (bits 2) ∷ []) ∷ (bits 0 ∷ replayed (fill 2) ∷ bits 3 ∷ []) ∷ (bits 0 ∷ fill 2 ∷ replayed (bits 3) ∷ []) ∷ [])
-      ≡ replicate 3 false ∷ replicate 2 (false ∷ false ∷ true ∷ [])
+  pub replays : map flags ((bits 0 ∷ replayed (fill 1) ∷ replayed (bits 2) ∷ []) ∷ (bits 0 ∷ replayed (fill 2) ∷ bits 3 ∷ []) ∷ (bits 0 ∷ fill 2 ∷ replayed (bits 3) ∷ []) ∷ (fill 2 ∷ fill 4 ∷ replayed (fill 5) ∷ bits 6 ∷ []) ∷ [])
+      ≡ replicate 3 false ∷ (false ∷ false ∷ true ∷ []) ∷ (false ∷ false ∷ true ∷ []) ∷ (false ∷ false ∷ false ∷ true ∷ []) ∷ []
   -- refused frames say their number, and nothing follows them or fails to
   pub refusals : map (λ (a : BitsSaid). a .refusal) (run (bits 0 ∷ unreadable) .said) ≡ 0 ∷ 3 ∷ 4 ∷ 5 ∷ 6 ∷ 7 ∷ []
   pub refused : map (λ (f : List ℕ). flags (f ∷ bits 0 ∷ f ∷ fill 1 ∷ f ∷ bits 2 ∷ f ∷ bits 3 ∷ [])) unreadable ≡ replicate 5 (replicate 4 false)

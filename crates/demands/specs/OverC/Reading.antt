@@ -9,8 +9,8 @@ use Rattle.exports.specs.Left.{Left}
 use Rattle.exports.specs.Bits.{read-leaves}
 
 -- the start of a reader: three zeros laid into the record's array
-abbrev pub unread : List ℕ → List ℕ
-unread array = told array (0 ∷ 0 ∷ 0 ∷ [])
+abbrev pub reader-zeroed : List ℕ → List ℕ
+reader-zeroed array = told array (0 ∷ 0 ∷ 0 ∷ [])
 
 -- what a caller reads after `itz_bits_read`, which returned this refusal: [0] is the count, [1] the replay flag, [2] the loss flag and [3] how many bits
 abbrev pub read-unit : ℕ → List ℕ → BitsSaid
