@@ -535,7 +535,7 @@ enum {
 enum {
     ITZ_BITS_COUNT,   /* the frame's count */
     ITZ_BITS_REPLAY,  /* its replay flag */
-    ITZ_BITS_LOSS,    /* 1 when frames were lost before these bits, else 0 */
+    ITZ_BITS_LOSS,    /* 1 when a count since the last bits did not follow, else 0 */
     ITZ_BITS_VALID,   /* number of valid bits */
     ITZ_BITS_START,   /* place in `frame` of the octets that hold them: 8 */
     ITZ_BITS_SIZE,    /* number of those octets, as few as hold the bits */

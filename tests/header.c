@@ -337,7 +337,7 @@ static void bits(void)
     IS(reader[ITZ_BIT_READER_WAITING], 0);
 }
 
-/* Fill behind a gap, the same frame refused, fill that follows, and the bits that tell the loss; then records that no call leaves. */
+/* Fill behind a gap, the next fill cut short and then whole, and the bits that tell the loss; then records that no call leaves. */
 static void losses(void)
 {
     uint8_t fill[BIT_FRAME] = {0x50, 0x83, 0, 0, 2, 0, 0x3F, 0xFE, 0x55, 0x55};
