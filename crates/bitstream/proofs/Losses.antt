@@ -11,6 +11,7 @@ use borrow.Author.Tests.{eq-eqb, ne-eqb, eqb-true, eqb-false, not-true}
 use Rattle.octets.specs.Basics.{pick, and, first, All}
 use Rattle.octets.proofs.Choices.{and-false, or-true, apart}
 use Rattle.octets.proofs.Tests.{test, or-all}
+use Rattle.frames.specs.Link.{count-width}
 use Rattle.frames.specs.BitFrame.{bit-heading-rows}
 use Rattle.frames.specs.declared.bits.BitSettings.{BitSettings}
 use Rattle.frames.proofs.Wheel.{none-missing}
@@ -18,7 +19,7 @@ use Rattle.bitstream.specs.Bitstream.{reader-reachable, read-rows, untol
 use Rattle.bitstream.specs.Loss.{BitUnit, follows, since-bits, any-lost, flag, unit-of, units-with, units-after, frame-said, run-said}
 use Rattle.bitstream.specs.Statements.{RunRead, as-said, run-read, reader-for, LostInFill, LossesWait}
 use Rattle.bitstream.specs.declared.Reader.{Reader}
-use Rattle.bitstream.specs.declared.Reader.the-variants.{Last}
+use Rattle.bitstream.specs.declared.Reader.the-variants.{Fresh, Last}
 use Rattle.bitstream.proofs.Reached.{reader-kept}
 
 -- a frame behind the units read before it
@@ -92,6 +93,11 @@ all-said s us (f ∷ fs) passes =
 
 -- ---- what the rule comes to
 
+untold-alike : (s t : BitSettings) (x : Reader) (c : ℕ) → count-width (s .link) ≡ count-width (t .link) → untold s x c ≡ untold t x c
+unfolding untold
+untold-alike s t Fresh c e = refl
+untold-alike s t (Last last waiting) c e = rw e
+
 found : (u : BitUnit) (us : List BitUnit) → u .bits ≡ 0 → (any-lost (since-bits us) ≡ true → LostInFill us)
     → (u .followed ≡ false) ⊎ (any-lost (since-bits us) ≡ true) → LostInFill (u ∷ us)
 found u us none older (inl e) = record { behind = []; unit = u; older = us; place = refl; alone = (none, tt); lost = e }
@@ -151,10 +157,11 @@ set-exactly u us = (
 
 -- THE FLAG WAITS FOR BITS
 pub losses-wait : LossesWait
-unfolding reader-for reader-reachable follows
+unfolding reader-for reader-reachable follows loss-flag next-reader
 losses-wait = record {
   said = λ s fs. ap (λ (r : RunRead). r .said) (all-said s [] fs refl);
   left = λ s fs. ap (λ (r : RunRead). r .reader) (all-said s [] fs refl);
+  alike = λ s t x c n e. (rw (untold-alike s t x c e), rw (untold-alike s t x c e));
   exactly = set-exactly;
   wheel = λ width c u us small.
       let same = none-missing width (u .count) c small in

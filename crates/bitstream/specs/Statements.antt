@@ -6,7 +6,7 @@ use mathlib.Core.List.{List, [], _∷_, _++_}
 use mathlib.Core.Bool.{true, false}
 use lib.ListN.{length, take}
 use Rattle.octets.specs.Basics.{All, AllOctets}
-use Rattle.frames.specs.Link.{zone-at, headers, missing}
+use Rattle.frames.specs.Link.{zone-at, headers, count-width, missing}
 use Rattle.frames.specs.BitFrame.{bits-in-range, bit-zone-of, bit-count, bit-replay, bit-pointer-word, most-bits}
 use Rattle.frames.specs.declared.bits.BitSettings.{BitSettings}
 use Rattle.bitstream.specs.Bitstream.{octets-for, bit-at, pointer-for, zone-with, begun, writer-reachable, written, reader-reachable, loss-flag, next-reader, reading, leading-octets}
@@ -69,6 +69,9 @@ pub record LostInFill (us : List BitUnit) : Type 0 where
 pub record LossesWait : Type 0 where
   pub said : (s : BitSettings) (fs : List (List ℕ)) → run-read s Fresh fs .said ≡ run-said s [] fs
   pub left : (s : BitSettings) (fs : List (List ℕ)) → run-read s Fresh fs .reader ≡ reader-for (units-after s [] fs)
+  -- on every channel alike, where its counts are as wide
+  pub alike : (s t : BitSettings) (x : Reader) (c n : ℕ) → count-width (s .link) ≡ count-width (t .link)
+      → (loss-flag s x c n ≡ loss-flag t x c n) × (next-reader s x c n ≡ next-reader t x c n)
   -- what the rule comes to, however long the fill and the gap: the flag is set exactly with bits whose own count did not follow or that come behind
   -- a loss in fill; and a count follows exactly where no frame is missing round the wheel
   pub exactly : (u : BitUnit) (us : List BitUnit) → (flag u us ≡ true) ↔ ((0 < u .bits) × ((u .followed ≡ false) ⊎ LostInFill us))
