@@ -98,6 +98,7 @@ unfolding untold
 untold-alike s t Fresh c e = refl
 untold-alike s t (Last last waiting) c e = rw e
 
+-- in fill, with more of it before: the loss is this unit's or an older one's
 found : (u : BitUnit) (us : List BitUnit) → u .bits ≡ 0 → (any-lost (since-bits us) ≡ true → LostInFill us)
     → (u .followed ≡ false) ⊎ (any-lost (since-bits us) ≡ true) → LostInFill (u ∷ us)
 found u us none older (inl e) = record { behind = []; unit = u; older = us; place = refl; alone = (none, tt); lost = e }
@@ -121,6 +122,7 @@ one-lost u us e = go (or-true (not (u .followed)) (any-lost us) e)
     go (inl h) = inl (not-true (u .followed) h)
     go (inr h) = inr h
 
+-- a loss among the units since the last bits has its place there
 lost-in-fill : (us : List BitUnit) → any-lost (since-bits us) ≡ true → LostInFill us
 unfolding since-bits any-lost
 lost-in-fill [] e = apart (cc e)
@@ -129,6 +131,7 @@ lost-in-fill (u ∷ us) e =
     (λ t. found u us (eqb-true (u .bits) 0 t) (lost-in-fill us) (one-lost u (since-bits us) (rw t at e)))
     (λ t. apart (cc (rw t at e)))
 
+-- and one that has its place there is among them
 fill-lost : (behind : List BitUnit) (u : BitUnit) (older : List BitUnit) → All (λ (w : BitUnit). w .bits ≡ 0) (u ∷ behind) → u .followed ≡ false
     → any-lost (since-bits (behind ++ (u ∷ older))) ≡ true
 unfolding since-bits any-lost
@@ -136,6 +139,7 @@ fill-lost [] u older alone e = rw (eq-eqb (u .bits) 0 (alone .0), e) refl
 fill-lost (w ∷ behind) u older alone e =
     rw (eq-eqb (w .bits) 0 (alone .1 .0), fill-lost behind u older (alone .0, alone .1 .1) e) (or-all (not (w .followed)))
 
+-- both ways, for a unit with bits
 set-by : (u : BitUnit) (us : List BitUnit) → (u .followed ≡ false) ⊎ LostInFill us → any-lost (u ∷ since-bits us) ≡ true
 unfolding any-lost
 set-by u us (inl e) = rw e refl
