@@ -22,16 +22,16 @@ pub more-then-whole : (limit : ℕ) (xs ys : List ℕ) {l : ℕ} → 1 ≤ limit
 more-then-whole limit xs ys room e w = look-grown limit xs ys room .short e w
 
 -- damage needs an octet
-pub damaged-some : (limit : ℕ) (os : List ℕ) → look limit os ≡ damaged → 1 ≤ length os
+pub damaged-some : (limit : ℕ) (os : List ℕ) {d : ℕ} → look limit os ≡ damaged d → 1 ≤ length os
 unfolding look
 damaged-some limit [] e = apart (cc)
 damaged-some limit (o ∷ os) e = omega arith
 
 -- and no octets behind it mend it
-pub damaged-append : (limit : ℕ) (xs ys : List ℕ) → 1 ≤ limit → look limit xs ≡ damaged → look limit (xs ++ ys) ≡ damaged
-damaged-append limit xs ys room e = go (look-grown limit xs ys room .settled)
+pub damaged-append : (limit : ℕ) (xs ys : List ℕ) {d : ℕ} → 1 ≤ limit → look limit xs ≡ damaged d → look limit (xs ++ ys) ≡ damaged d
+damaged-append limit xs ys {d} room e = go (look-grown limit xs ys room .settled)
   where
-    go : (look limit xs ≡ more) ⊎ (look limit (xs ++ ys) ≡ look limit xs) → look limit (xs ++ ys) ≡ damaged
+    go : (look limit xs ≡ more) ⊎ (look limit (xs ++ ys) ≡ look limit xs) → look limit (xs ++ ys) ≡ damaged d
     go (inl m) = cc
     go (inr q) = q ∙ e
 

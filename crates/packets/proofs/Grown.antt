@@ -10,8 +10,8 @@ use lib.ListN.{length, take, drop, length-append, length-take, length-drop, take
 use lib.Seq.{take-all, take-append-le, drop-append-le, length-take-le}
 use lib.Dec.{ltb, eqb}
 use borrow.Author.Tests.{ltb-true, ltb-false, lt-ltb, le-ltb}
-use Rattle.octets.specs.Basics.{pick, or, number, part}
-use Rattle.octets.proofs.Choices.{split, apart, picked, or-false}
+use Rattle.octets.specs.Basics.{pick, number, part}
+use Rattle.octets.proofs.Choices.{split, apart, picked}
 use Rattle.packets.specs.Packet.{Look, more, damaged, whole, sized, counted, space, header-length, encapsulation, packet-version, protocol-of, length-of-length, look, WellFormed}
 use Rattle.packets.proofs.Sizes.{header-positive, header-most}
 
@@ -19,16 +19,16 @@ use Rattle.packets.proofs.Sizes.{header-positive, header-most}
 
 abbrev pub Bounded : ℕ → ℕ → Look → Type 0
 Bounded limit n more = n < 8
-Bounded limit n damaged = Unit {0}
+Bounded limit n (damaged d) = Unit {0}
 Bounded limit n (whole l) = (1 ≤ l) × (l ≤ limit)
 
 -- the kinds of packet by their version: 0, 7, and no other
 kind : Bool → Bool → ℕ → ℕ → ℕ → List ℕ → Look
-kind zeroth seventh limit protocol n os = pick zeroth (space limit os) (pick seventh (encapsulation limit protocol n os) damaged)
+kind zeroth seventh limit protocol n os = pick zeroth (space limit os) (pick seventh (encapsulation limit protocol n os) (damaged 1))
 
 module _ (limit n : ℕ) where
   sized-bounded : (a b : Bool) (size total : ℕ) → ltb total size ≡ a → ltb limit total ≡ b → 1 ≤ size
-      → Bounded limit n (pick (or a b) damaged (whole total))
+      → Bounded limit n (pick a (damaged 3) (pick b (damaged 4) (whole total)))
   sized-bounded true b size total e f h = tt
   sized-bounded false true size total e f h = tt
   sized-bounded false false size total e f h = (omega (arith, ltb-false total size e), ltb-false limit total f)
@@ -45,7 +45,7 @@ encapsulation-bounded : (limit protocol code : ℕ) (os : List ℕ) → 1 ≤ li
 unfolding encapsulation
 encapsulation-bounded limit protocol zero os h = go (eqb protocol 0)
   where
-    go : (t : Bool) → Bounded limit (length os) (pick t (whole 1) damaged)
+    go : (t : Bool) → Bounded limit (length os) (pick t (whole 1) (damaged 2))
     go true = (omega arith, h)
     go false = tt
 encapsulation-bounded limit protocol (suc n) os h =
@@ -76,11 +76,13 @@ headed limit from size value os = counted limit (length os) size (value (part fr
 sized-least : (limit size total : ℕ) {l : ℕ} → sized limit size total ≡ whole l → size ≤ l
 unfolding sized
 sized-least limit size total {l} e =
-    picked (or (ltb total size) (ltb limit total)) damaged (whole total) e
+    picked (ltb total size) (damaged 3) _ e
     (λ t q. apart (cc))
-    (λ t q.
+    (λ t q. picked (ltb limit total) (damaged 4) (whole total) q
+    (λ u r. apart (cc))
+    (λ u r.
     let same : total ≡ l = cc in
-    omega (arith, ltb-false total size (or-false (ltb total size) (ltb limit total) t .0)))
+    omega (arith, ltb-false total size t)))
 
 counted-least : (limit len size total : ℕ) {l : ℕ} → counted limit len size total ≡ whole l → size ≤ l
 unfolding counted
@@ -90,13 +92,14 @@ counted-least limit len size total e =
 encapsulation-least : (limit protocol code : ℕ) (os : List ℕ) {l : ℕ} → encapsulation limit protocol code os ≡ whole l → header-length code ≤ l
 unfolding encapsulation header-length
 encapsulation-least limit protocol zero os {l} e =
-    picked (eqb protocol 0) (whole 1) damaged e (λ t q. let one : 1 ≡ l = cc in omega arith) (λ t q. apart (cc))
+    picked (eqb protocol 0) (whole 1) (damaged 2) e (λ t q. let one : 1 ≡ l = cc in omega arith) (λ t q. apart (cc))
 encapsulation-least limit protocol (suc n) os e = counted-least limit (length os) (header-length (suc n)) _ e
 
 sized-not-more : (limit size total : ℕ) → sized limit size total ≡ more → ⊥
 unfolding sized
 sized-not-more limit size total e =
-    picked (or (ltb total size) (ltb limit total)) damaged (whole total) e (λ t q. apart (cc)) (λ t q. apart (cc))
+    picked (ltb total size) (damaged 3) _ e (λ t q. apart (cc))
+    (λ t q. picked (ltb limit total) (damaged 4) (whole total) q (λ u r. apart (cc)) (λ u r. apart (cc)))
 
 -- what stands in a list's first octets stands there in a longer list
 part-append : (from size : ℕ) (xs ys : List ℕ) → from ≤ size → size ≤ length xs → part from size (xs ++ ys) ≡ part from size xs
@@ -138,8 +141,8 @@ encapsulation-grown : (limit protocol n : ℕ) (xs ys : List ℕ)
     → Grown (length xs) (encapsulation limit protocol n xs) (encapsulation limit protocol n (xs ++ ys))
 unfolding encapsulation
 encapsulation-grown limit protocol zero xs ys =
-    fixed-grown (length xs) (pick (eqb protocol 0) (whole 1) damaged)
-    (λ e. picked (eqb protocol 0) (whole 1) damaged e (λ t q. apart (cc)) (λ t q. apart (cc)))
+    fixed-grown (length xs) (pick (eqb protocol 0) (whole 1) (damaged 2))
+    (λ e. picked (eqb protocol 0) (whole 1) (damaged 2) e (λ t q. apart (cc)) (λ t q. apart (cc)))
 encapsulation-grown limit protocol (suc n) xs ys =
     let size : ℕ = header-length (suc n) in
     headed-grown limit (size / 2) size number xs ys (omega arith)
@@ -149,7 +152,7 @@ kind-grown : (zeroth seventh : Bool) (limit protocol n : ℕ) (xs ys : List ℕ)
 unfolding kind space
 kind-grown true seventh limit protocol n xs ys = headed-grown limit 4 6 (λ os. number os + 7) xs ys (omega arith)
 kind-grown false true limit protocol n xs ys = encapsulation-grown limit protocol n xs ys
-kind-grown false false limit protocol n xs ys = fixed-grown (length xs) damaged (λ e. apart (cc))
+kind-grown false false limit protocol n xs ys = fixed-grown (length xs) (damaged 1) (λ e. apart (cc))
 
 -- The law that the others follow from: it settles what it says once, and says `more` only of less than a packet.
 pub look-grown : (limit : ℕ) (xs ys : List ℕ) → 1 ≤ limit → Grown (length xs) (look limit xs) (look limit (xs ++ ys))

@@ -2,6 +2,7 @@ pub mod Sizes
 pub mod Looks
 pub mod Grown
 pub mod Readings
+pub mod Damages
 pub mod Unwraps
 pub mod Determined
 pub mod Begun

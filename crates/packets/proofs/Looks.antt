@@ -45,7 +45,7 @@ module _ (limit : ℕ) (os : List ℕ) where
     unfolding encapsulation
     none-read h = simp (eq-eqb _ _ h)
 
-    pub none-damaged : (protocol ≡ 0 → ⊥) → encapsulation limit protocol 0 os ≡ damaged
+    pub none-damaged : (protocol ≡ 0 → ⊥) → encapsulation limit protocol 0 os ≡ damaged 2
     unfolding encapsulation
     none-damaged h = simp (ne-eqb _ _ h)
 
@@ -78,7 +78,7 @@ look-encapsulation limit [] h v = absurd (h refl)
 look-encapsulation limit (o ∷ os) h v = rw v refl
 
 pub look-other : (limit : ℕ) (os : List ℕ) → (length os ≡ 0 → ⊥) → (packet-version (getD os 0 0) ≡ 0 → ⊥) → (packet-version (getD os 0 0) ≡ 7 → ⊥)
-    → look limit os ≡ damaged
+    → look limit os ≡ damaged 1
 unfolding look
 look-other limit [] h v w = absurd (h refl)
 look-other limit (o ∷ os) h v w = rw (ne-eqb _ _ v, ne-eqb _ _ w) refl

@@ -26,7 +26,7 @@ test-formed limit p = go (look limit p)
   where
     go : (a : Look) → states (length p) a ≡ true → a ≡ whole (length p)
     go more e = cc
-    go damaged e = cc
+    go (damaged d) e = cc
     go (whole l) e = ap whole (eqb-true l (length p) e)
 
 -- ---- octets behind a whole header change nothing of what it tells

@@ -23,10 +23,12 @@ pub record Reading : Type 0 where
   pub idle : Bool
   pub size : ℕ
   pub total : ℕ
+  -- of a damaged header: 1 the version, 2 a packet of one octet is not idle, 3 the length is below its header, 4 it is over the limit
+  pub damage : ℕ
 
--- an answer that tells nothing of the packet
-abbrev pub bare : ℕ → ℕ → Reading
-bare refusal outcome = record {
+-- an answer that tells nothing of the packet but its damage
+abbrev pub bare : ℕ → ℕ → ℕ → Reading
+bare refusal outcome damage = record {
   refusal = refusal;
   outcome = outcome;
   version = 0;
@@ -34,12 +36,13 @@ bare refusal outcome = record {
   idle = false;
   size = 0;
   total = 0;
+  damage = damage;
 }
 
 -- what is told of octets that say so much of their packet's length
 unfoldable pub told : List ℕ → Look → Reading
-told os more = bare 0 1
-told os damaged = bare 0 2
+told os more = bare 0 1 0
+told os (damaged d) = bare 0 2 d
 told os (whole total) = record {
   refusal = 0;
   outcome = 3;
@@ -48,11 +51,12 @@ told os (whole total) = record {
   idle = is-idle os;
   size = size-of os;
   total = total;
+  damage = 0;
 }
 
 -- the rule: a limit out of range is refused
 unfoldable pub reading : ℕ → List ℕ → Reading
-reading limit os = pick (limit-in-range limit) (told os (look limit os)) (bare 1 0)
+reading limit os = pick (limit-in-range limit) (told os (look limit os)) (bare 1 0 0)
 
 -- the version of each kind of packet
 unfoldable pub version-of : Kind → ℕ
@@ -61,9 +65,9 @@ version-of Encapsulation = 7
 
 -- an answer in numbers
 unfoldable pub answer : Header → Reading
-answer (Refused refusal) = bare refusal 0
-answer More = bare 0 1
-answer Damaged = bare 0 2
+answer (Refused refusal) = bare refusal 0 0
+answer More = bare 0 1 0
+answer (Damaged d) = bare 0 2 d
 answer (Whole kind key idle size total) = record {
   refusal = 0;
   outcome = 3;
@@ -72,10 +76,11 @@ answer (Whole kind key idle size total) = record {
   idle = idle;
   size = size;
   total = total;
+  damage = 0;
 }
 
 -- what an answer of the length alone says
 unfoldable pub seen : Seen → Look
 seen Seen.More = more
-seen Seen.Damaged = damaged
+seen (Seen.Damaged d) = damaged d
 seen (Seen.Whole total) = whole total

@@ -6,22 +6,23 @@ use mathlib.Core.List.{List, [], _∷_, _++_}
 use mathlib.Core.Bool.{Bool, false}
 use lib.ListN.{length, take, getD}
 use lib.Dec.{leb, ltb, eqb}
-use Rattle.octets.specs.Basics.{pick, and, or, number, part}
+use Rattle.octets.specs.Basics.{pick, and, number, part}
 use Rattle.words.specs.Fields.{field}
 
 -- the limits that can be set, each the length of the greatest packet
 unfoldable pub limit-in-range : ℕ → Bool
 limit-in-range limit = and (leb 7 limit) (leb limit 65542)
 
--- what octets that begin a packet say: the header is not whole yet; it is damaged; the packet has so many octets in all
+-- what octets that begin a packet say: the header is not whole yet; it is damaged, 1 to 4 says how; the packet has so many octets
+-- in all
 pub data Look : Type 0 where
   more : Look
-  damaged : Look
+  damaged : ℕ → Look
   whole : ℕ → Look
 
--- a header of `size` octets is whole and states `total`
+-- a header of `size` octets is whole and states `total`, which is below it, over the limit, or the packet's
 unfoldable pub sized : ℕ → ℕ → ℕ → Look
-sized limit size total = pick (or (ltb total size) (ltb limit total)) damaged (whole total)
+sized limit size total = pick (ltb total size) (damaged 3) (pick (ltb limit total) (damaged 4) (whole total))
 
 -- the same where so many octets are there
 unfoldable pub counted : ℕ → ℕ → ℕ → ℕ → Look
@@ -40,7 +41,7 @@ header-length (suc (suc (suc n))) = 8
 
 -- an encapsulation packet: the total stands in the header's second half; a header of one octet states none, and is idle
 unfoldable pub encapsulation : ℕ → ℕ → ℕ → List ℕ → Look
-encapsulation limit protocol zero os = pick (eqb protocol 0) (whole 1) damaged
+encapsulation limit protocol zero os = pick (eqb protocol 0) (whole 1) (damaged 2)
 encapsulation limit protocol (suc n) os =
     let size : ℕ = header-length (suc n) in
     counted limit (length os) size (number (part (size / 2) size os))
@@ -61,7 +62,21 @@ look limit [] = more
 look limit (o ∷ os) =
     pick (eqb (packet-version o) 0) (space limit (o ∷ os))
     (pick (eqb (packet-version o) 7) (encapsulation limit (protocol-of o) (length-of-length o) (o ∷ os))
-    damaged)
+    (damaged 1))
+
+-- nothing is wrong with a header
+abbrev pub Undamaged : Look → Type 0
+Undamaged l = (d : ℕ) → l ≡ damaged d → ⊥
+
+-- what is wrong with it, 0 where nothing is
+unfoldable pub damage-in : Look → ℕ
+damage-in more = 0
+damage-in (damaged d) = d
+damage-in (whole total) = 0
+
+-- what a refusal says of the packet that was lent: with 8 what is wrong with its header, with any other number nothing
+unfoldable pub carried : ℕ → ℕ → List ℕ → ℕ
+carried refusal limit p = pick (eqb refusal 8) (damage-in (look limit p)) 0
 
 -- a packet is well formed where its header says its own length
 abbrev pub WellFormed : ℕ → List ℕ → Type 0
@@ -70,7 +85,7 @@ WellFormed limit p = look limit p ≡ whole (length p)
 -- whether a packet of n octets is stated
 unfoldable pub states : ℕ → Look → Bool
 states n more = false
-states n damaged = false
+states n (damaged d) = false
 states n (whole l) = eqb l n
 
 -- the same as a test

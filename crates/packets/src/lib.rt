@@ -4,12 +4,13 @@ ghost use Prim.Native.Nat.{_/_, _≤_};
 ghost use lib.ListN.{length, getD};
 ghost use Rattle.octets.specs.Basics.{and, number-at};
 ghost use Rattle.words.specs.Fields.{read};
-ghost use Rattle.packets.specs.Packet.{whole, limit-in-range, apid, OfAKind, packet-version, protocol-of, length-of-length, header-length, sized, encapsulation, look, is-idle, well-formed};
+ghost use Rattle.packets.specs.Packet.{whole, limit-in-range, apid, OfAKind, packet-version, protocol-of, length-of-length, header-length, sized, encapsulation, look, damage-in, carried, is-idle, well-formed};
 ghost use Rattle.packets.specs.Header.{seen, told, reading, answer};
 use octets::limits;
 use octets::refusals;
 use words::Place;
 
+pub mod damage;
 mod unwrapping;
 
 pub use unwrapping::Unwrapped;
@@ -63,8 +64,10 @@ pub enum Header {
     },
     // The header is not whole yet.
     More,
-    // No packet begins so.
-    Damaged,
+    // No packet begins so: what is wrong.
+    Damaged {
+        damage: u8,
+    },
     // The packet's kind, its APID or protocol, whether it is idle, its header's length and its own.
     Whole {
         kind: Kind,
@@ -78,7 +81,7 @@ pub enum Header {
 // What the first octets of a packet say of its length.
 pub enum Seen {
     More,
-    Damaged,
+    Damaged { damage: u8 },
     Whole { total: usize },
 }
 
@@ -106,10 +109,14 @@ fn sized(limit: usize, size: usize, total: usize) -> Seen
     ensures { λ r. ⌜ seen r ≡ sized limit size total ⌝ }
 {
     if total < size {
-        return Seen::Damaged;
+        return Seen::Damaged {
+            damage: damage::BELOW_HEADER,
+        };
     }
     if limit < total {
-        return Seen::Damaged;
+        return Seen::Damaged {
+            damage: damage::OVER_LIMIT,
+        };
     }
     Seen::Whole { total }
 }
@@ -141,7 +148,9 @@ fn encapsulation(limit: usize, protocol: u8, code: u8, start: &[u8]) -> Seen
         if protocol == IDLE_PROTOCOL {
             return Seen::Whole { total: 1 };
         }
-        return Seen::Damaged;
+        return Seen::Damaged {
+            damage: damage::NOT_IDLE,
+        };
     }
     let size = header_length(code);
     if start.len() < size {
@@ -203,7 +212,30 @@ pub fn read_length(limit: usize, start: &[u8]) -> Seen
     if version == ENCAPSULATION_VERSION {
         return encapsulation(limit, protocol(start), length_of_length(start), start);
     }
-    Seen::Damaged
+    Seen::Damaged {
+        damage: damage::VERSION,
+    }
+}
+
+// What is wrong with a header.
+pub fn damage_in(length: Seen) -> u8
+    ensures { λ r. ⌜ r ≡ damage-in (seen length) ⌝ }
+{
+    match length {
+        Seen::More => damage::NONE,
+        Seen::Damaged { damage } => damage,
+        Seen::Whole { .. } => damage::NONE,
+    }
+}
+
+// What a refusal says of the packet that was lent: with PACKET what is wrong with its header.
+pub fn carried(refusal: u8, limit: usize, p: &[u8]) -> u8
+    ensures { λ r. ⌜ r ≡ carried refusal limit (now (p .entry)) ⌝ }
+{
+    if refusal != refusals::PACKET {
+        return damage::NONE;
+    }
+    damage_in(read_length(limit, p))
 }
 
 // Whether octets that begin a packet begin an idle one.
@@ -250,9 +282,19 @@ pub fn read_header(limit: usize, start: &[u8]) -> Header
     }
     match read_length(limit, start) {
         Seen::More => Header::More,
-        Seen::Damaged => Header::Damaged,
+        Seen::Damaged { damage } => Header::Damaged { damage },
         Seen::Whole { total } => tell(start, total),
     }
+}
+
+// What is wrong with a header that was read.
+pub fn header_damage(header: Header) -> u8
+    ensures { λ r. ⌜ r ≡ answer header .damage ⌝ }
+{
+    let Header::Damaged { damage } = header else {
+        return damage::NONE;
+    };
+    damage
 }
 
 // Whether a packet's header says the packet's own length.
@@ -261,7 +303,7 @@ fn formed(limit: usize, p: &[u8]) -> bool
 {
     match read_length(limit, p) {
         Seen::More => false,
-        Seen::Damaged => false,
+        Seen::Damaged { .. } => false,
         Seen::Whole { total } => total == p.len(),
     }
 }

@@ -5,6 +5,7 @@ ghost use Rattle.packets.specs.Unwrap.{extension-of, reserved-of, unwrap
 use super::EXTENDED_PROTOCOL;
 use super::EXTENSION;
 use super::SPACE_VERSION;
+use super::carried;
 use super::formed;
 use super::header_length;
 use super::in_range;
@@ -16,8 +17,10 @@ use octets::refusals;
 
 // What comes of unwrapping a packet.
 pub enum Unwrapped {
+    // The number of the refusal; and of refusal 8 what is wrong with the packet's header, or 0.
     Refused {
         refusal: u8,
+        damage: u8,
     },
     // Its protocol and extension, and the part of the packet that is the data unit.
     Unit {
@@ -70,7 +73,10 @@ pub fn unwrap(limit: usize, p: &[u8]) -> Unwrapped
 {
     let refusal = unwrap_refusal(limit, p);
     if refusal != 0 {
-        return Unwrapped::Refused { refusal };
+        return Unwrapped::Refused {
+            refusal,
+            damage: carried(refusal, limit, p),
+        };
     }
     let start = header_length(length_of_length(p));
     Unwrapped::Unit {

@@ -34,7 +34,7 @@ returns-2 c = rw (ranged (c .before .before .before), ← c .before .before .rea
 
 returns-3 : tie.Need-returns-3
 unfolding answer reading told seen
-returns-3 c = rw (ranged (c .before .before .before), ← c .before .before .read-length .ensures, c .enum-told2 .given .1) refl
+returns-3 c = rw (ranged (c .before .before .before .before), ← c .before .before .before .read-length .ensures, c .before .damage .given .1) refl
 
 returns-4 : tie.Need-returns-4
 unfolding reading seen

@@ -5,7 +5,7 @@ use mathlib.Core.List.{List}
 use Prim.Native.Nat.{ℕ, _-_}
 use lib.ListN.{length, getD}
 use Rattle.octets.specs.Basics.{first}
-use Rattle.packets.specs.Packet.{protocol-of, header-length}
+use Rattle.packets.specs.Packet.{carried, protocol-of, header-length}
 use Rattle.packets.specs.Unwrap.{its-length-of-length, extension-of, unwrap-rows, unwrapping, unwraps}
 use Rattle.packets.specs.declared.unwrapping.Unwrapped.{Unwrapped}
 use Rattle.packets.proofs.Unwraps.{unwrapping-refused, unwrapping-done}
@@ -15,9 +15,9 @@ use Rattle.packets.proofs.unwrapping.unwrap.Tie as tie
 
 -- what is answered, by what the calls give
 module _ (limit : ℕ) (p : List ℕ) {refusal : ℕ} (r : refusal ≡ first (unwrap-rows limit p)) where
-  refused : (refusal ≡ 0 → ⊥) → unwraps (Unwrapped.Refused refusal) ≡ unwrapping limit p
+  refused : (refusal ≡ 0 → ⊥) → {damage : ℕ} → damage ≡ carried refusal limit p → unwraps (Unwrapped.Refused refusal damage) ≡ unwrapping limit p
   unfolding unwraps
-  refused h = cc (unwrapping-refused limit p (λ z. h (cc)))
+  refused h d = cc (unwrapping-refused limit p (λ z. h (cc)))
 
   done : refusal ≡ 0 → {code start protocol extension size : ℕ} → code ≡ its-length-of-length p → start ≡ header-length code → protocol ≡ protocol-of (getD p 0 0)
       → extension ≡ extension-of p → size ≡ length p - start → unwraps (Unwrapped.Unit protocol extension start size) ≡ unwrapping limit p
@@ -26,8 +26,9 @@ module _ (limit : ℕ) (p : List ℕ) {refusal : ℕ} (r : refusal ≡ first (un
 
 returns : tie.Need-returns
 returns c =
-    let a = c .before .before .before .args in
-    refused (a .limit) (a .p .now) (c .before .unwrap-refusal .ensures) (c .if1 .taken)
+    let at-refusal = c .before .before in
+    let a = at-refusal .before .before .args in
+    refused (a .limit) (a .p .now) (at-refusal .unwrap-refusal .ensures) (c .before .if1 .taken) (c .carried .ensures)
 
 returns-2 : tie.Need-returns-2
 returns-2 c =
@@ -43,6 +44,7 @@ pub unwrap-spec : {M : Type 1} → statement M
 unwrap-spec =
     tie.close
     (tie.spec
+    (λ c κs. search needs)
     (λ c κs. search needs)
     returns
     (λ c κs. search needs)
