@@ -8,16 +8,16 @@ use Rattle.wrapping.specs.declared.Wrapped.{Wrapped}
 use Rattle.wrapping.specs.Wrap.{Wrapping, wraps}
 
 wrapped-back : Wrapping → Wrapped
-wrapped-back w = pick (w .accepted) (Wrapped.Total (w .total)) (Wrapped.Refused (w .refusal))
+wrapped-back w = pick (w .accepted) (Wrapped.Total (w .total)) (Wrapped.Refused (w .refusal) (w .damage))
 
 wrapped-undo : (r : Wrapped) (output : List ℕ) → wrapped-back (wraps r output) ≡ r
 unfolding wrapped-back wraps
-wrapped-undo (Wrapped.Refused n) output = refl
+wrapped-undo (Wrapped.Refused n d) output = refl
 wrapped-undo (Wrapped.Total n) output = refl
 
 output-undo : (r : Wrapped) (output : List ℕ) → wraps r output .output ≡ output
 unfolding wraps
-output-undo (Wrapped.Refused n) output = refl
+output-undo (Wrapped.Refused n d) output = refl
 output-undo (Wrapped.Total n) output = refl
 
 -- the answer, and the octets lent

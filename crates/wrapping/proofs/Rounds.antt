@@ -177,7 +177,7 @@ module _ (limit protocol extension : ℕ) (unit : List ℕ) (s : Settings limit 
       refl
 
   packet-unwrapped : unwrapping limit packet
-      ≡ record { accepted = true; refusal = 0; protocol = protocol; extension = extension; start = header-length code; size = length unit }
+      ≡ record { accepted = true; refusal = 0; damage = 0; protocol = protocol; extension = extension; start = header-length code; size = length unit }
   unfolding wrapped-total
   packet-unwrapped =
       let size : length packet - header-length code ≡ length unit = omega (arith, packet-length) in

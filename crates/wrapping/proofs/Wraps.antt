@@ -70,11 +70,11 @@ module _ (limit protocol extension : ℕ) (unit output : List ℕ) where
   abbrev refusal : ℕ
   refusal = first (wrap-rows limit protocol extension (length unit) total (length output))
 
-  pub wrapping-refused : (refusal ≡ 0 → ⊥) → wrapping limit protocol extension unit output ≡ record { accepted = false; refusal = refusal; total = 0; output = output }
+  pub wrapping-refused : (refusal ≡ 0 → ⊥) → wrapping limit protocol extension unit output ≡ record { accepted = false; refusal = refusal; damage = 0; total = 0; output = output }
   unfolding wrapping
   wrapping-refused h = rw (ne-eqb refusal 0 h) refl
 
   pub wrapping-done : refusal ≡ 0
-      → wrapping limit protocol extension unit output ≡ record { accepted = true; refusal = 0; total = total; output = over output 0 (wrapped protocol extension unit) }
+      → wrapping limit protocol extension unit output ≡ record { accepted = true; refusal = 0; damage = 0; total = total; output = over output 0 (wrapped protocol extension unit) }
   unfolding wrapping
   wrapping-done h = rw (eq-eqb refusal 0 h) refl

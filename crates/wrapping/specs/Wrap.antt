@@ -43,10 +43,12 @@ wrap-rows limit protocol extension n total room =
     ∷ row 2 (ltb room total)
     ∷ []
 
--- what comes of a call: whether it is accepted; the refusal, or 0; the total, 0 on a refusal; and the lent output
+-- what comes of a call: whether it is accepted; the refusal, or 0; what is wrong with a packet's header, 0 since none is lent; the total,
+-- 0 on a refusal; and the lent output
 pub record Wrapping : Type 0 where
   pub accepted : Bool
   pub refusal : ℕ
+  pub damage : ℕ
   pub total : ℕ
   pub output : List ℕ
 
@@ -56,13 +58,13 @@ wrapping limit protocol extension unit output =
     let total : ℕ = wrapped-total protocol (length unit) in
     let refusal : ℕ = first (wrap-rows limit protocol extension (length unit) total (length output)) in
     pick (eqb refusal 0)
-    (record { accepted = true; refusal = 0; total = total; output = over output 0 (wrapped protocol extension unit) })
-    (record { accepted = false; refusal = refusal; total = 0; output = output })
+    (record { accepted = true; refusal = 0; damage = 0; total = total; output = over output 0 (wrapped protocol extension unit) })
+    (record { accepted = false; refusal = refusal; damage = 0; total = 0; output = output })
 
 -- an answer, and the output as it is left
 unfoldable pub wraps : Wrapped → List ℕ → Wrapping
-wraps (Wrapped.Refused refusal) output = record { accepted = false; refusal = refusal; total = 0; output = output }
-wraps (Wrapped.Total total) output = record { accepted = true; refusal = 0; total = total; output = output }
+wraps (Wrapped.Refused refusal damage) output = record { accepted = false; refusal = refusal; damage = damage; total = 0; output = output }
+wraps (Wrapped.Total total) output = record { accepted = true; refusal = 0; damage = 0; total = total; output = output }
 
 -- a header by its length-of-length suits a data unit of n octets: its length field holds the total, and for protocol 6 it has the
 -- extension
@@ -86,6 +88,7 @@ pub record RoundTrip (limit protocol extension : ℕ) (unit output : List ℕ) :
       ≡ record {
         accepted = true;
         refusal = 0;
+        damage = 0;
         protocol = protocol;
         extension = extension;
         start = header-length (length-of-length-for protocol (length unit));

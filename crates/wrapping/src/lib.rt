@@ -7,6 +7,7 @@ use front::write_front;
 use octets::limits;
 use octets::refusals;
 use packets::EXTENDED_PROTOCOL;
+use packets::damage;
 use packets::header_length;
 
 mod front;
@@ -25,7 +26,8 @@ const MOST_EXTENSION: u8 = 15;
 
 // What comes of wrapping a data unit.
 pub enum Wrapped {
-    Refused { refusal: u8 },
+    // The number of the refusal; no packet is lent, so that the damage of its header is none.
+    Refused { refusal: u8, damage: u8 },
     // The packet's length.
     Total { total: usize },
 }
@@ -89,7 +91,10 @@ pub fn wrap(limit: usize, protocol: u8, extension: u8, unit: &[u8], out: &mut [u
     let total = wrapped_total(protocol, unit);
     let refusal = wrap_refusal(limit, protocol, extension, n, total, out.len());
     if refusal != 0 {
-        return Wrapped::Refused { refusal };
+        return Wrapped::Refused {
+            refusal,
+            damage: damage::NONE,
+        };
     }
     let code = length_of_length_for(protocol, n);
     write_front(out, 0, protocol, extension, code, total);

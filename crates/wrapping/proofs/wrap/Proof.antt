@@ -18,7 +18,7 @@ use Rattle.wrapping.proofs.wrap.Tie as tie
 -- what is answered, by what the calls give
 module _ (limit protocol extension : ℕ) (unit output : List ℕ) {total refusal : ℕ} (t : total ≡ wrapped-total protocol (length unit))
     (r : refusal ≡ first (wrap-rows limit protocol extension (length unit) total (length output))) where
-  refused : (refusal ≡ 0 → ⊥) → wraps (Wrapped.Refused refusal) output ≡ wrapping limit protocol extension unit output
+  refused : (refusal ≡ 0 → ⊥) → wraps (Wrapped.Refused refusal 0) output ≡ wrapping limit protocol extension unit output
   unfolding wraps
   refused h = cc (wrapping-refused limit protocol extension unit output (λ z. h (cc)))
 
