@@ -1,21 +1,23 @@
 -- Entering a frame that is not refused: what is said of it, and where its walk sets out.
 -- Assumes nothing.
 use mathlib.Core.Path.{_≡_, refl, sym, ap, _∙_}
-use mathlib.Core.List.{List}
+use mathlib.Core.List.{List, _++_}
 use mathlib.Core.Bool.{true, false}
 use Prim.Native.Nat.{ℕ, _≤_}
 use lib.ListN.{length, take}
 use lib.Seq.{length-take-le}
 use borrow.Author.Tests.{eq-eqb, ne-eqb}
 use Rattle.octets.proofs.Choices.{apart}
+use Rattle.packets.specs.Packet.{look, damage-in}
 use Rattle.frames.specs.Frame.{count, replay, pointer}
 use Rattle.frames.specs.declared.Settings.{Settings}
-use Rattle.extractor.specs.Extract.{astray, in-step, held-of, lost-since, reason-in, reason-of, step-of, take-in}
+use Rattle.extractor.specs.Extract.{astray, in-step, held-of, lost-since, reason-in, reason-of, damage-of, step-of, take-in}
 use Rattle.extractor.specs.Records.{last-count, step-in, is-in-step, held-in, stands-for, set-off, set-out, enter}
 use Rattle.extractor.specs.Answers.{EnterSaid, entered-as}
 use Rattle.extractor.specs.declared.Extractor.{Extractor}
 use Rattle.extractor.specs.declared.Extractor.the-variants.{Fresh, Astray, InStep, Walking, Leaving}
 use Rattle.extractor.proofs.Unrefused.{Arrives, held-fits}
+use Rattle.extractor.proofs.Steps.{left, zone-left}
 
 -- ---- the step that a record is in
 
@@ -64,15 +66,35 @@ module _ (s : Settings) (x : Extractor) (store f : List ℕ) (lost : ℕ) (count
   unfolding reason-of stands-for
   held-reason r none inside e = rw (← counted, eq-eqb lost 0 none, in-step-is store x inside) e
 
+-- ---- what is wrong with the header of the octets held
+
+held-octets : (store : List ℕ) (x : Extractor) → held-of (step-in store x) ≡ take (held-in x) store
+held-octets store Fresh = refl
+held-octets store (Astray last) = refl
+held-octets store (InStep last h) = refl
+held-octets store (Walking last h at) = refl
+held-octets store (Leaving last) = refl
+
+module _ (s : Settings) (x : Extractor) (store f : List ℕ) {reason : ℕ} (reasoned : reason ≡ reason-of s (stands-for store x) f) where
+  pub other-reason : (reason ≡ 3 → ⊥) → 0 ≡ damage-of s (stands-for store x) f
+  unfolding damage-of
+  other-reason h = rw (← reasoned, ne-eqb reason 3 h) refl
+
+  pub damage-reason : reason ≡ 3 → {d : ℕ} → d ≡ damage-in (look (s .limit) (take (held-in x) store ++ left s 0 f))
+      → d ≡ damage-of s (stands-for store x) f
+  unfolding damage-of stands-for
+  damage-reason h e = rw (← reasoned, eq-eqb reason 3 h, held-octets store x, zone-left s 0 f) e
+
 -- ---- what is said
 
 module _ {s : Settings} {x : Extractor} {store f : List ℕ} (a : Arrives s x store f)
-    (c r p lost reason : ℕ) (counted : c ≡ count s f) (replayed : r ≡ replay s f) (pointed : p ≡ pointer s f)
-    (missed : lost ≡ lost-since s (last-count x) c) (reasoned : reason ≡ reason-of s (stands-for store x) f) where
+    (c r p lost reason damage : ℕ) (counted : c ≡ count s f) (replayed : r ≡ replay s f) (pointed : p ≡ pointer s f)
+    (missed : lost ≡ lost-since s (last-count x) c) (reasoned : reason ≡ reason-of s (stands-for store x) f)
+    (named : damage ≡ damage-of s (stands-for store x) f) where
   -- with so many octets dropped and this record after it
   abbrev says-so : ℕ → Extractor → EnterSaid
   says-so dropped next = record {
-    answer = record { refusal = 0; outcome = 1; count = c; replay = r; lost = lost; dropped = dropped; reason = reason };
+    answer = record { refusal = 0; outcome = 1; count = c; replay = r; lost = lost; dropped = dropped; reason = reason; damage = damage };
     next = next;
   }
 
@@ -83,10 +105,10 @@ module _ {s : Settings} {x : Extractor} {store f : List ℕ} (a : Arrives s x st
       → says-so 0 next ≡ entered-as s x store f
   unfolding take-in enter step-of stands-for
   nothing-dropped next none set =
-      rw (set, missed, counted, replayed, pointed, reasoned, sym reasoned ∙ none, set-out-is s (count s f) (pointer s f) store x fits) refl
+      rw (set, missed, counted, replayed, pointed, named, reasoned, sym reasoned ∙ none, set-out-is s (count s f) (pointer s f) store x fits) refl
 
   pub all-dropped : (dropped : ℕ) (next : Extractor) → dropped ≡ held-in x → (reason ≡ 0 → ⊥) → next ≡ set-off s c p false 0
       → says-so dropped next ≡ entered-as s x store f
   unfolding take-in enter step-of stands-for
   all-dropped dropped next held some set =
-      rw (held, set, missed, counted, replayed, pointed, reasoned, ne-eqb _ 0 (λ e. some (reasoned ∙ e)), length-held store x fits) refl
+      rw (held, set, missed, counted, replayed, pointed, named, reasoned, ne-eqb _ 0 (λ e. some (reasoned ∙ e)), length-held store x fits) refl

@@ -21,7 +21,7 @@ use Rattle.extractor.specs.declared.Spending.{Spending}
 entered-back : EnterNumbers → Entered
 entered-back n =
     pick (eqb (n .outcome) 0) (Entered.Refused (n .refusal))
-    (Entered.Taken (record { count = n .count; replay = n .replay; lost = n .lost; dropped = n .dropped; reason = n .reason }))
+    (Entered.Taken (record { count = n .count; replay = n .replay; lost = n .lost; dropped = n .dropped; reason = n .reason; damage = n .damage }))
 
 entered-undo : (e : Entered) → entered-back (entered-numbers e) ≡ e
 unfolding entered-back entered-numbers
@@ -43,7 +43,7 @@ enter-determined = told-apart enter-says entering-back entering-undo
 found-back : StepNumbers → Found
 found-back n =
     pick (eqb (n .outcome) 0) (Found.Refused (n .refusal))
-    (pick (eqb (n .outcome) 3) Found.Damaged
+    (pick (eqb (n .outcome) 3) (Found.Damaged (n .damage))
     (pick (eqb (n .outcome) 4) Found.Spent
     (pick (eqb (n .place) 1)
     (Found.InFrame (n .start) (n .size) (eqb (n .outcome) 2))
@@ -56,7 +56,7 @@ found-undo f store (Found.InFrame start size true) = refl
 found-undo f store (Found.InFrame start size false) = refl
 found-undo f store (Found.InStore size true) = refl
 found-undo f store (Found.InStore size false) = refl
-found-undo f store Found.Damaged = refl
+found-undo f store (Found.Damaged d) = refl
 found-undo f store Found.Spent = refl
 
 stepped-back : StepSaid → Stepped

@@ -12,7 +12,7 @@ use borrow.Author.Tests.{ltb-true, eqb-true, ne-eqb, eq-eqb}
 use Rattle.octets.specs.Basics.{first}
 use Rattle.octets.proofs.Choices.{apart, and-true}
 use Rattle.octets.proofs.Tests.{test}
-use Rattle.packets.specs.Packet.{Look, more, damaged, whole, look}
+use Rattle.packets.specs.Packet.{Look, more, damaged, whole, look, Undamaged}
 use Rattle.frames.specs.Frame.{idle-zone, no-start, in-range, frame-length, frame-rows, zone-of, pointer, count}
 use Rattle.frames.specs.declared.Settings.{Settings}
 use Rattle.frames.proofs.Accepted.{length-zone, Pointed, offset, idles, starts-none, accepted}
@@ -32,7 +32,7 @@ held-not-idle s (o ∷ os) f small some-held e p = go (look (s .limit) ((o ∷ o
   where
     go : (r : Look) → reason-by idle-zone (agreed-look s (o ∷ os) r) ≡ 0 → ⊥
     go more z = omega arith
-    go damaged z = omega arith
+    go (damaged d) z = omega arith
     go (whole l) z =
         test (ltb (l - length (o ∷ os)) (s .zone))
         (λ t.
@@ -43,17 +43,17 @@ held-not-idle s (o ∷ os) f small some-held e p = go (look (s .limit) ((o ∷ o
 
 -- nor with a zone that damages its header
 held-not-damaged : (s : Settings) (held f : List ℕ) → 1 ≤ length held → reason-in s (in-step held) f ≡ 0
-    → look (s .limit) (held ++ zone-of s f) ≡ damaged → ⊥
+    → Undamaged (look (s .limit) (held ++ zone-of s f))
 unfolding reason-in reason-by agreed agreed-look
-held-not-damaged s [] f some-held e d = omega arith
-held-not-damaged s (o ∷ os) f some-held e d = let z : _≡_ {A = ℕ} 3 0 = rw d at e in omega arith
+held-not-damaged s [] f some-held e d torn = omega arith
+held-not-damaged s (o ∷ os) f some-held e d torn = let z : _≡_ {A = ℕ} 3 0 = rw torn at e in omega arith
 
 -- the steps that the comparison can leave, of a record between frames
 pub data Compared (s : Settings) (f store : List ℕ) : Step → Type 0 where
   lost : Compared s f store astray
   empty : Compared s f store (in-step [])
   begun : {h : ℕ} → 1 ≤ h → h ≤ length store → BegunIn s store h
-      → (pointer s f ≡ idle-zone → ⊥) → (look (s .limit) (take h store ++ zone-of s f) ≡ damaged → ⊥)
+      → (pointer s f ≡ idle-zone → ⊥) → Undamaged (look (s .limit) (take h store ++ zone-of s f))
       → Compared s f store (in-step (take h store))
 
 compared-held : (s : Settings) (f store : List ℕ) (h : ℕ) → in-range s ≡ true → holds-well s store h ≡ true
@@ -93,7 +93,7 @@ compared s f store x ok reach between =
 -- where a record stands that has entered the frame, and what there is to walk from there
 pub data Arrival (s : Settings) (f store : List ℕ) : Walked → Extractor → Type 0 where
   nothing : Arrival s f store (ends [] astray) (Leaving (count s f))
-  onward : {h at : ℕ} → Place s store h at → (1 ≤ h → look (s .limit) (take h store ++ zone-of s f) ≡ damaged → ⊥)
+  onward : {h at : ℕ} → Place s store h at → (1 ≤ h → Undamaged (look (s .limit) (take h store ++ zone-of s f)))
       → Arrival s f store (walk (s .limit) (ahead s f store h at)) (Walking (count s f) h at)
 
 module _ (s : Settings) (f store : List ℕ) (ok : in-range s ≡ true) (right : length f ≡ frame-length s) where

@@ -16,7 +16,7 @@ use Rattle.octets.specs.Basics.{and, AllOctets, number-from, number, part}
 use Rattle.octets.proofs.Choices.{apart, and-true}
 use Rattle.octets.proofs.Fronts.{part-append, all-append, all-zeros}
 use Rattle.octets.proofs.Tests.{test, and-both}
-use Rattle.packets.specs.Packet.{Look, more, damaged, whole, look, sized, counted, space, encapsulation, header-length, packet-version, protocol-of, length-of-length}
+use Rattle.packets.specs.Packet.{Look, more, damaged, whole, look, Undamaged, sized, counted, space, encapsulation, header-length, packet-version, protocol-of, length-of-length}
 use Rattle.frames.specs.Frame.{in-range}
 use Rattle.frames.specs.declared.Settings.{Settings}
 use Rattle.extractor.specs.Records.{unfinished, reachable}
@@ -73,7 +73,7 @@ reads s size half plus os = counted (s .limit) (length os) size (number (part ha
 
 -- what the first octet makes of a header, and of the test
 data Heads (s : Settings) (o : ℕ) : Type 0 where
-  broken : ((os : List ℕ) → look (s .limit) (o ∷ os) ≡ damaged) → Heads s o
+  broken : (d : ℕ) → ((os : List ℕ) → look (s .limit) (o ∷ os) ≡ damaged d) → Heads s o
   lone : ((os : List ℕ) → look (s .limit) (o ∷ os) ≡ whole 1) → ((os : List ℕ) → can-go-on s (o ∷ os) ≡ true) → Heads s o
   headed : (size half plus : ℕ) → half < size → size ≤ 8 → ((n : ℕ) → n + plus < size → plus ≡ 0)
       → ((os : List ℕ) → look (s .limit) (o ∷ os) ≡ reads s size half plus (o ∷ os))
@@ -83,7 +83,7 @@ capsule-head : (s : Settings) (o protocol n : ℕ) → ((os : List ℕ) → look
     → ((os : List ℕ) → can-go-on s (o ∷ os) ≡ encapsulation-goes-on s n (o ∷ os)) → Heads s o
 unfolding encapsulation encapsulation-goes-on header-length
 capsule-head s o protocol zero e g =
-    test (eqb protocol 0) (λ t. lone (λ os. rw (e os, t)) g) (λ t. broken λ os. rw (e os, t))
+    test (eqb protocol 0) (λ t. lone (λ os. rw (e os, t)) g) (λ t. broken 2 λ os. rw (e os, t))
 capsule-head s o protocol (suc zero) e g =
     headed 2 1 0 (omega arith) (omega arith) (λ n h. refl) (λ os. e os ∙ simp add-zero) g
 capsule-head s o protocol (suc (suc zero)) e g =
@@ -98,13 +98,13 @@ heads s o =
     (λ t. headed 6 4 7 (omega arith) (omega arith) (λ n h. absurd (omega arith)) (λ os. rw t) (λ os. rw t))
     (λ t. test (eqb (packet-version o) 7)
     (λ u. capsule-head s o (protocol-of o) (length-of-length o) (λ os. rw (t, u)) (λ os. rw t))
-    (λ u. broken λ os. rw (t, u)))
+    (λ u. broken 1 λ os. rw (t, u)))
 
-sized-undamaged : (limit size total : ℕ) → (sized limit size total ≡ damaged → ⊥) → (size ≤ total) × (total ≤ limit)
+sized-undamaged : (limit size total : ℕ) → Undamaged (sized limit size total) → (size ≤ total) × (total ≤ limit)
 unfolding sized
 sized-undamaged limit size total sound =
-    test (ltb total size) (λ t. absurd (sound (rw t)))
-    (λ t. test (ltb limit total) (λ u. absurd (sound (rw (t, u)))) (λ u. (ltb-false total size t, ltb-false limit total u)))
+    test (ltb total size) (λ t. absurd (sound 3 (rw t)))
+    (λ t. test (ltb limit total) (λ u. absurd (sound 4 (rw (t, u)))) (λ u. (ltb-false total size t, ltb-false limit total u)))
 
 sized-sound : (limit size total : ℕ) → size ≤ total → total ≤ limit → sized limit size total ≡ whole total
 unfolding sized
@@ -112,14 +112,14 @@ sized-sound limit size total h k = rw (le-ltb total size h, le-ltb limit total k
 
 -- a zone that goes on leaves room to state a length
 room-from-zone : (s : Settings) (size half plus : ℕ) (held z : List ℕ) → length z ≡ s .zone
-    → (reads s size half plus (held ++ z) ≡ damaged → ⊥) → room-to-state s size half plus held ≡ true
+    → Undamaged (reads s size half plus (held ++ z)) → room-to-state s size half plus held ≡ true
 unfolding room-to-state counted
 room-from-zone s size half plus held z fits sound =
     test (ltb (length (held ++ zeros s)) size) (λ t. rw t)
     (λ t.
     let same : length (held ++ z) ≡ length (held ++ zeros s) = simp (length-append, length-replicate) (omega arith) in
     let long : ltb (length (held ++ z)) size ≡ false = rw same t in
-    let (low, high) = sized-undamaged (s .limit) size (number (part half size (held ++ z)) + plus) (λ d. sound (rw (long, d))) in
+    let (low, high) = sized-undamaged (s .limit) size (number (part half size (held ++ z)) + plus) (λ d e. sound d (rw (long, e))) in
     let below : Below (zeros s) z = rw fits at (below-zeros z) in
     let least : number (part half size (held ++ zeros s)) ≤ number (part half size (held ++ z)) = below-part half size (below-same held below) in
     rw t (and-both (le-leb size (s .limit) (omega arith))
@@ -142,9 +142,9 @@ zeros-split i j n e = sym (replicate-append-replicate i (suc j) 0 ∙ ap (λ n. 
 
 -- a zone, and that the header of what is held with it is not damaged
 abbrev Zone : Settings → (List ℕ → Look) → List ℕ → Type 0
-Zone s read held = (z : List ℕ) × AllOctets z × (length z ≡ s .zone) × (read (held ++ z) ≡ damaged → ⊥)
+Zone s read held = (z : List ℕ) × AllOctets z × (length z ≡ s .zone) × Undamaged (read (held ++ z))
 
-zero-zone : (s : Settings) (read : List ℕ → Look) (held : List ℕ) → (read (held ++ zeros s) ≡ damaged → ⊥) → Zone s read held
+zero-zone : (s : Settings) (read : List ℕ → Look) (held : List ℕ) → Undamaged (read (held ++ zeros s)) → Zone s read held
 zero-zone s read held sound = (zeros s, all-zeros (s .zone), length-zeros (s .zone), sound)
 
 module _ (s : Settings) (size half plus : ℕ) (held : List ℕ) (inside : half < size) (short : size ≤ 8) (fits : size ≤ s .limit)
@@ -175,17 +175,17 @@ module _ (s : Settings) (size half plus : ℕ) (held : List ℕ) (inside : half 
       let z-length : length z ≡ s .zone = simp (length-append, length-replicate) (omega arith) in
       let small : AllOctets z = all-append (replicate i 0) (size ∷ replicate j 0) (all-zeros i) (omega arith, all-zeros j) in
       let is : reads s size half plus (held ++ z) ≡ whole size = read-long z size z-length stated (omega arith) fits in
-      (z, small, z-length, (λ d. apart (cc is)))
+      (z, small, z-length, (λ d e. apart (cc is)))
 
 -- room to state a length leaves a zone that goes on
 zone-from-room : (s : Settings) (size half plus : ℕ) (held : List ℕ) → half < size → size ≤ 8 → ((n : ℕ) → n + plus < size → plus ≡ 0)
-    → (reads s size half plus held ≡ damaged → ⊥) → room-to-state s size half plus held ≡ true
+    → Undamaged (reads s size half plus held) → room-to-state s size half plus held ≡ true
     → Zone s (reads s size half plus) held
 unfolding room-to-state counted sized
 zone-from-room s size half plus held inside short added sound room =
     let least : ℕ = number (part half size (held ++ zeros s)) in
     test (ltb (length (held ++ zeros s)) size)
-    (λ t. zero-zone s (reads s size half plus) held (λ d. let z : more ≡ damaged = rw t at d in apart (cc)))
+    (λ t. zero-zone s (reads s size half plus) held (λ d e. let z : more ≡ damaged d = rw t at e in apart (cc)))
     (λ t.
     let a = and-true (leb size (s .limit)) _ (rw t at room) in
     let fits : size ≤ s .limit = leb-true size (s .limit) (a .0) in
@@ -201,33 +201,33 @@ zone-from-room s size half plus held inside short added sound room =
     let same : part half size (held ++ zeros s) ≡ part half size held =
     part-append half size held (zeros s) (omega arith) (ltb-false (length held) size v) in
     let less-held : ltb (number (part half size held) + plus) size ≡ true = rw (← same) u in
-    absurd (sound (rw (v, less-held)))))
+    absurd (sound 3 (rw (v, less-held)))))
     (λ u.
     let is = read-long s size half plus held inside short fits enough (zeros s) (least + plus) (length-zeros (s .zone)) refl
     (ltb-false (least + plus) size u) high in
-    zero-zone s (reads s size half plus) held (λ d. apart (cc is))))
+    zero-zone s (reads s size half plus) held (λ d e. apart (cc is))))
 
 -- the octets that begin a packet and are not damaged have a zone that goes on with them exactly where the test passes
-goes-on-exactly : (s : Settings) (held : List ℕ) → 1 ≤ length held → (look (s .limit) held ≡ damaged → ⊥)
+goes-on-exactly : (s : Settings) (held : List ℕ) → 1 ≤ length held → Undamaged (look (s .limit) held)
     → CanGoOn s held ↔ (can-go-on s held ≡ true)
 goes-on-exactly s [] some-held sound = absurd (omega arith)
 goes-on-exactly s (o ∷ os) some-held sound = go (heads s o)
   where
     go : Heads s o → CanGoOn s (o ∷ os) ↔ (can-go-on s (o ∷ os) ≡ true)
-    go (broken e) = absurd (sound (e os))
-    go (lone e g) = ((λ zone. g os), (λ t. zero-zone s (look (s .limit)) (o ∷ os) (λ d. apart (cc (e (os ++ zeros s))))))
+    go (broken d e) = absurd (sound d (e os))
+    go (lone e g) = ((λ zone. g os), (λ t. zero-zone s (look (s .limit)) (o ∷ os) (λ d q. apart (cc (e (os ++ zeros s))))))
     go (headed size half plus inside short added e g) = (
-      (λ zone. g os ∙ room-from-zone s size half plus (o ∷ os) (zone .0) (zone .2) (λ d. zone .3 (e (os ++ zone .0) ∙ d))),
+      (λ zone. g os ∙ room-from-zone s size half plus (o ∷ os) (zone .0) (zone .2) (λ d q. zone .3 d (e (os ++ zone .0) ∙ q))),
       (λ t.
-          let (z, small, fits, ok) = zone-from-room s size half plus (o ∷ os) inside short added (λ d. sound (e os ∙ d)) (sym (g os) ∙ t) in
-          (z, small, fits, (λ d. ok (sym (e (os ++ z)) ∙ d)))),
+          let (z, small, fits, ok) = zone-from-room s size half plus (o ∷ os) inside short added (λ d q. sound d (e os ∙ q)) (sym (g os) ∙ t) in
+          (z, small, fits, (λ d q. ok d (sym (e (os ++ z)) ∙ q)))),
     )
 
 -- ---- the records that calls lead to, by a test
 
-unfinished-sound : (n : ℕ) (r : Look) → unfinished n r ≡ true → r ≡ damaged → ⊥
+unfinished-sound : (n : ℕ) (r : Look) → unfinished n r ≡ true → Undamaged r
 unfolding unfinished
-unfinished-sound n r e d = let z : false ≡ true = rw d at e in apart (cc)
+unfinished-sound n r e d q = let z : false ≡ true = rw q at e in apart (cc)
 
 continues-test : (s : Settings) (store : List ℕ) (x : Extractor) → reachable s store x ≡ true
     → Continues s store x ↔ (held-goes-on s store x ≡ true)

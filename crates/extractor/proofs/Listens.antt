@@ -36,6 +36,7 @@ all-is-said s store t w r =
       lost = t .lost;
       dropped = t .dropped;
       reason = t .reason;
+      damage = t .damage;
       events = es;
       state = st;
     })

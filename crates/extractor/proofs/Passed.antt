@@ -8,13 +8,13 @@ use Rattle.trailer.specs.Division.{bits, all-bits, moved, step, divided, remain
 use Rattle.trailer.specs.Trailer.{extra, right, wrong}
 use Rattle.frames.specs.Link.{primary, zone-head, header-rows, count-width, missing}
 use Rattle.frames.specs.Frame.{frame-length, unused, frame-rows, zone-of}
-use Rattle.extractor.specs.Extract.{told, take-in, step-of, reason-of, lost-since, reason-in, reason-by, agreed, agreed-look, walked, walk, walk-turns, walk-look}
+use Rattle.extractor.specs.Extract.{told, take-in, step-of, reason-of, damage-of, lost-since, reason-in, reason-by, agreed, agreed-look, walked, walk, walk-turns, walk-look}
 use Rattle.extractor.specs.Passes.{SamplePasses, TrailedPasses}
 
 pub sample-passes : SamplePasses
-unfolding extra wrong number-from number octets field part first look space encapsulation counted sized header-length is-idle primary zone-head header-rows count-width missing frame-length unused frame-rows zone-of told take-in step-of reason-of lost-since reason-in reason-by agreed agreed-look walked walk walk-turns walk-look
+unfolding extra wrong number-from number octets field part first look space encapsulation counted sized header-length is-idle primary zone-head header-rows count-width missing frame-length unused frame-rows zone-of told take-in step-of reason-of damage-of lost-since reason-in reason-by agreed agreed-look walked walk walk-turns walk-look
 sample-passes = refl
 
 pub trailed-passes : TrailedPasses
-unfolding bits all-bits moved step divided remainder right number-at extra wrong number-from number octets field part first look space encapsulation counted sized header-length is-idle primary zone-head header-rows count-width missing frame-length unused frame-rows zone-of told take-in step-of reason-of lost-since reason-in reason-by agreed agreed-look walked walk walk-turns walk-look
+unfolding bits all-bits moved step divided remainder right number-at extra wrong number-from number octets field part first look space encapsulation counted sized header-length is-idle primary zone-head header-rows count-width missing frame-length unused frame-rows zone-of told take-in step-of reason-of damage-of lost-since reason-in reason-by agreed agreed-look walked walk walk-turns walk-look
 trailed-passes = refl

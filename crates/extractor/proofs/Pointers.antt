@@ -50,7 +50,7 @@ module _ {s : Settings} {h : ℕ} {store f : List ℕ} (w : Walks s h 0 store f)
     unfolding seen agreed-look reason-by
     more-held n e q = e ∙ sym (ap (λ (x : Seen). reason-by p (agreed-look s (take h store) (seen x))) q ∙ rw (or-none (eqb p no-start)) refl) ∙ by-length
 
-    pub damaged-held : r ≡ Damaged → Right 3
+    pub damaged-held : {d : ℕ} → r ≡ Damaged d → Right 3
     unfolding seen agreed-look reason-by
     damaged-held q = sym (ap (λ (x : Seen). reason-by p (agreed-look s (take h store) (seen x))) q) ∙ by-length
 

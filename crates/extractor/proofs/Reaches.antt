@@ -15,7 +15,7 @@ use Rattle.octets.specs.Basics.{AllOctets, octets, first}
 use Rattle.octets.proofs.Choices.{apart, and-true}
 use Rattle.octets.proofs.Fronts.{all-take, all-drop, all-append, all-zeros, all-octets}
 use Rattle.octets.proofs.Tests.{test, and-both}
-use Rattle.packets.specs.Packet.{Look, more, damaged, whole, look}
+use Rattle.packets.specs.Packet.{Look, more, damaged, whole, look, Undamaged}
 use Rattle.packets.proofs.Begun.{damaged-append}
 use Rattle.packets.proofs.Grown.{look-append}
 use Rattle.trailer.proofs.Setting.{sent-octets}
@@ -187,7 +187,7 @@ begun-before limit xs ys room e = go (look limit xs) refl
   where
     go : (r : Look) → look limit xs ≡ r → unfinished (length xs) r ≡ true
     go more m = refl
-    go damaged m = let z : false ≡ true = rw (damaged-append limit xs ys room m) at e in z
+    go (damaged d) m = let z : false ≡ true = rw (damaged-append limit xs ys room m) at e in z
     go (whole l) m =
         lt-ltb (length xs) l
         (omega (arith, ltb-true (length (xs ++ ys)) l (rw (look-append limit xs ys room m) at e), length-append xs ys))
@@ -201,7 +201,7 @@ outlasted-agrees s (o ∷ os) z some-held fits e = go (look (s .limit) ((o ∷ o
   where
     go : (r : Look) → unfinished (length ((o ∷ os) ++ z)) r ≡ true → agreed-look s (o ∷ os) r ≡ some (no-start ∷ [])
     go more m = refl
-    go damaged m = cc
+    go (damaged d) m = cc
     go (whole l) m =
         let long : length ((o ∷ os) ++ z) < l = ltb-true (length ((o ∷ os) ++ z)) l m in
         rw (le-ltb (l - length (o ∷ os)) (s .zone) (omega (arith, length-append (o ∷ os) z)))
@@ -213,7 +213,7 @@ record Agrees (s : Settings) (held z : List ℕ) (p : ℕ) : Type 0 where
   used : Used s p
   not-idle : p ≡ idle-zone → ⊥
 
-agrees-with : (s : Settings) (held z : List ℕ) → in-range s ≡ true → 1 ≤ length held → (look (s .limit) (held ++ z) ≡ damaged → ⊥)
+agrees-with : (s : Settings) (held z : List ℕ) → in-range s ≡ true → 1 ≤ length held → Undamaged (look (s .limit) (held ++ z))
     → (p : ℕ) × Agrees s held z p
 unfolding agreed agreed-look
 agrees-with s [] z ok some-held undamaged = absurd (omega arith)
@@ -224,7 +224,7 @@ agrees-with s (o ∷ os) z ok some-held undamaged = go (look (s .limit) ((o ∷ 
 
     go : (r : Look) → look (s .limit) ((o ∷ os) ++ z) ≡ r → (p : ℕ) × Agrees s (o ∷ os) z p
     go more m = (no-start, unstarted (rw m refl))
-    go damaged m = absurd (undamaged m)
+    go (damaged d) m = absurd (undamaged d m)
     go (whole l) m =
         let p : ℕ = l - length (o ∷ os) in
         test (ltb p (s .zone))

@@ -181,9 +181,9 @@ module _ (s : Settings) (f : List ℕ) (ok : in-range s ≡ true) (right : lengt
   turn-settles n zero store last h at room wheel time turns again (break e before) =
       absurd (omega (arith, damaged-some (s .limit) (ahead s f store h at) e))
   turn-settles zero (suc k) store last h at room wheel time turns again (break e before) = absurd (omega arith)
-  turn-settles (suc n) (suc k) store last h at room wheel time turns again (break e before) =
+  turn-settles (suc n) (suc k) store last h at room wheel time turns again (break {d = d} e before) =
       rw (walk-torn k (s .limit) (ahead s f store h at) e)
-      (settles-after s f store store (suc n) last Damaged (Leaving last) torn (ends [] astray)
+      (settles-after s f store store (suc n) last (Damaged d) (Leaving last) (torn d) (ends [] astray)
       refl refl refl refl (leaving-settles store n last room wheel))
   turn-settles n zero store last h at room wheel time turns again (give {l = l} packed e fits seen rest low high same far) =
       absurd (omega (arith, look-bounds (s .limit) (ahead s f store h at) {l = l} (omega (arith, settled s ok)) e))

@@ -39,25 +39,25 @@ drop-take (suc a) (suc n) (x ∷ l) = drop-take a n l ∙ ap (λ (k : ℕ). take
 hand-more : (n : ℕ) (r : Seen) → at-hand n r ≡ More → (r ≡ More) ⊎ ((l : ℕ) × (r ≡ Whole l) × (n < l))
 unfolding at-hand
 hand-more n More e = inl refl
-hand-more n Seen.Damaged e = apart (cc)
+hand-more n (Seen.Damaged d) e = apart (cc)
 hand-more n (Whole l) e = test (ltb n l) (λ t. inr (l, refl, ltb-true n l t)) (λ t. absurd (longer (rw t at e)))
   where
     longer : Whole l ≡ More → ⊥
     longer e = apart (cc)
 
-hand-damaged : (n : ℕ) (r : Seen) → at-hand n r ≡ Seen.Damaged → r ≡ Seen.Damaged
+hand-damaged : (n : ℕ) (r : Seen) {d : ℕ} → at-hand n r ≡ Seen.Damaged d → r ≡ Seen.Damaged d
 unfolding at-hand
 hand-damaged n More e = e
-hand-damaged n Seen.Damaged e = refl
-hand-damaged n (Whole l) e = test (ltb n l) (λ t. absurd (other (rw t at e))) (λ t. rw t at e)
+hand-damaged n (Seen.Damaged d) e = e
+hand-damaged n (Whole l) {d} e = test (ltb n l) (λ t. absurd (other (rw t at e))) (λ t. rw t at e)
   where
-    other : More ≡ Seen.Damaged → ⊥
+    other : More ≡ Seen.Damaged d → ⊥
     other e = apart (cc)
 
 hand-whole : (n : ℕ) (r : Seen) {l : ℕ} → at-hand n r ≡ Whole l → (r ≡ Whole l) × (l ≤ n)
 unfolding at-hand
 hand-whole n More e = apart (cc)
-hand-whole n Seen.Damaged e = apart (cc)
+hand-whole n (Seen.Damaged d) e = apart (cc)
 hand-whole n (Whole k) {l} e =
     test (ltb n k) (λ t. absurd (other (rw t at e)))
     (λ t. let same : Whole k ≡ Whole l = rw t at e in (same, its-own same (ltb-false n k t)))
@@ -116,7 +116,7 @@ module _ {s : Settings} {h at : ℕ} {store f : List ℕ} (w : Walks s h at stor
     unfolding seen step-look
     step-more q = sym (at-look ∙ ap (λ (x : Seen). step-look s store last h at (left s at f) (seen x)) q)
 
-    step-damaged : r ≡ Seen.Damaged → steps-to Damaged (Leaving last) store ≡ step s f store (Walking last h at)
+    step-damaged : {d : ℕ} → r ≡ Seen.Damaged d → steps-to (Damaged d) (Leaving last) store ≡ step s f store (Walking last h at)
     unfolding seen step-look
     step-damaged q = sym (at-look ∙ ap (λ (x : Seen). step-look s store last h at (left s at f) (seen x)) q)
 
@@ -188,7 +188,7 @@ module _ {s : Settings} {h at : ℕ} {store f : List ℕ} (w : Walks s h at stor
 
     -- by the octets that are at hand: those held, and the zone's from `at`
     module _ {n : ℕ} (many : n ≡ h + (8 + s .zone - (8 + at))) {there : Seen} (cut : there ≡ at-hand n r) where
-      pub step-torn : there ≡ Seen.Damaged → steps-to Damaged (Leaving last) store ≡ step s f store (Walking last h at)
+      pub step-torn : {d : ℕ} → there ≡ Seen.Damaged d → steps-to (Damaged d) (Leaving last) store ≡ step s f store (Walking last h at)
       step-torn q = step-damaged (hand-damaged n r (sym cut ∙ q))
 
       pub step-kept : there ≡ More → kept-for-later store last h (left s at f) ≡ step s f store (Walking last h at)

@@ -41,8 +41,8 @@ pub data Turn (s : Settings) (f store : List ℕ) : Extractor → Stepped → Ty
       → Turn s f store (Walking last h at)
       (steps-to Spent (InStep last (length (ahead s f store h at)))
       (ahead s f store h at ++ drop (length (ahead s f store h at)) store))
-  break : {last h at : ℕ} → look (s .limit) (ahead s f store h at) ≡ damaged → at < s .zone
-      → Turn s f store (Walking last h at) (steps-to Damaged (Leaving last) store)
+  break : {last h at d : ℕ} → look (s .limit) (ahead s f store h at) ≡ damaged d → at < s .zone
+      → Turn s f store (Walking last h at) (steps-to (Damaged d) (Leaving last) store)
   give : {last h at next l : ℕ} {a : Found} {st : List ℕ} → Packed a (is-idle (take l (ahead s f store h at)))
       → look (s .limit) (ahead s f store h at) ≡ whole l → l ≤ length (ahead s f store h at)
       → shown f st a ≡ take l (ahead s f store h at)
@@ -63,7 +63,7 @@ begun-ends-later limit xs ys l room begun e = go (look limit xs) refl
   where
     go : (r : Look) → look limit xs ≡ r → length xs < l
     go more m = more-then-whole limit xs ys room m e
-    go damaged m = apart (cc (damaged-append limit xs ys room m))
+    go (damaged d) m = apart (cc (damaged-append limit xs ys room m))
     go (whole k) m =
         let same : k ≡ l = cc (look-append limit xs ys room m) in
         omega (arith, ltb-true (length xs) k (rw m at begun))
@@ -122,7 +122,7 @@ module _ (s : Settings) (f store : List ℕ) (ok : in-range s ≡ true) (right :
       seen left (omega arith) (omega arith) same (drop-front-over packet store (s .limit) (omega arith)))
 
   -- damage needs an octet of the zone
-  broken-before-end : {h at : ℕ} → Place s store h at → look (s .limit) (ahead s f store h at) ≡ damaged → at < s .zone
+  broken-before-end : {h at d : ℕ} → Place s store h at → look (s .limit) (ahead s f store h at) ≡ damaged d → at < s .zone
   broken-before-end (in-packet some-held held begun) e = omega (arith, settled s ok)
   broken-before-end (in-zone {at} low) e =
       omega (arith, damaged-some (s .limit) (drop at (zone-of s f)) e, length-drop at (zone-of s f), length-zone s f right)
@@ -139,7 +139,7 @@ module _ (s : Settings) (f store : List ℕ) (ok : in-range s ≡ true) (right :
 
       go : (r : Look) → look (s .limit) os ≡ r → Turn s f store (Walking last h at) (step-look s store last h at rest r)
       go more e = kept-turn last p (rw e) (omega (arith, more-short (s .limit) os some-room e, settled s ok))
-      go damaged e = break e (broken-before-end p e)
+      go (damaged d) e = break e (broken-before-end p e)
       go (whole l) e =
           test (leb l (h + length rest))
           (λ t. rw t (given-turn last l p e (omega (arith, leb-true, length-ahead p))))

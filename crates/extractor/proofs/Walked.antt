@@ -28,10 +28,10 @@ walk-begun (suc n) limit os begun = go (look limit os) begun
   where
     go : (r : Look) → unfinished (length os) r ≡ true → walk-look (λ rest. walk-turns n limit rest) os r ≡ ends [] (in-step os)
     go more e = refl
-    go damaged e = apart (cc)
+    go (damaged d) e = apart (cc)
     go (whole l) e = rw (lt-leb l (length os) (ltb-true (length os) l e))
 
-pub walk-torn : (n limit : ℕ) (os : List ℕ) → look limit os ≡ damaged → walk-turns (suc n) limit os ≡ ends (torn ∷ []) astray
+pub walk-torn : (n limit : ℕ) (os : List ℕ) {d : ℕ} → look limit os ≡ damaged d → walk-turns (suc n) limit os ≡ ends (torn d ∷ []) astray
 unfolding walk-turns walk-look
 walk-torn n limit os e = rw e
 
@@ -207,7 +207,7 @@ clean-turn : (n limit : ℕ) (xs : List ℕ) → 1 ≤ limit → length xs ≤ s
     → Clean limit xs (walk-turns (suc n) limit xs)
 unfolding unfinished
 clean-turn n limit xs h k again t more e = clean-begun (suc n) limit xs (rw e refl)
-clean-turn n limit xs h k again t damaged e =
+clean-turn n limit xs h k again t (damaged d) e =
     let torn-here : true ≡ false = sym (ap (λ w. any-torn (w .events)) (walk-torn n limit xs e)) ∙ t in
     apart (cc)
 clean-turn n limit xs h k again t (whole l) e =

@@ -18,7 +18,7 @@ use Rattle.extractor.specs.declared.Move.{Move}
 
 -- ---- entering
 
--- what entering answers: its refusal; 0 where it is refused and 1 where the frame is entered; and the five numbers
+-- what entering answers: its refusal; 0 where it is refused and 1 where the frame is entered; and the six numbers
 pub record EnterNumbers : Type 0 where
   pub refusal : ℕ
   pub outcome : ℕ
@@ -27,16 +27,17 @@ pub record EnterNumbers : Type 0 where
   pub lost : ℕ
   pub dropped : ℕ
   pub reason : ℕ
+  pub damage : ℕ
 
 -- a refusal answers its number, and else nothing
 abbrev pub refused-entry : ℕ → EnterNumbers
-refused-entry n = record { refusal = n; outcome = 0; count = 0; replay = 0; lost = 0; dropped = 0; reason = 0 }
+refused-entry n = record { refusal = n; outcome = 0; count = 0; replay = 0; lost = 0; dropped = 0; reason = 0; damage = 0 }
 
 -- each case of the answer in numbers
 unfoldable pub entered-numbers : Entered → EnterNumbers
 entered-numbers (entered.Refused n) = refused-entry n
 entered-numbers (Taken e) =
-    record { refusal = 0; outcome = 1; count = e .count; replay = e .replay; lost = e .lost; dropped = e .dropped; reason = e .reason }
+    record { refusal = 0; outcome = 1; count = e .count; replay = e .replay; lost = e .lost; dropped = e .dropped; reason = e .reason; damage = e .damage }
 
 -- an answer in numbers, and the record after it
 pub record EnterSaid : Type 0 where
@@ -50,7 +51,7 @@ enter-says r = record { answer = entered-numbers (r .entered); next = r .next }
 -- what the rules say of a frame that is entered
 abbrev pub said-numbers : Said → EnterNumbers
 said-numbers t =
-    record { refusal = 0; outcome = 1; count = t .count; replay = t .replay; lost = t .lost; dropped = t .dropped; reason = t .reason }
+    record { refusal = 0; outcome = 1; count = t .count; replay = t .replay; lost = t .lost; dropped = t .dropped; reason = t .reason; damage = t .damage }
 
 -- the same, and the record after it
 abbrev pub entered-as : Settings → Extractor → List ℕ → List ℕ → EnterSaid
@@ -66,7 +67,7 @@ enter-answer s x store f =
 -- ---- a step
 
 -- what a step answers: its refusal; 0 where it is refused, 1 a packet, 2 an idle packet, 3 damaged, 4 spent; where the part
--- lies, 1 in the frame, 2 in the store; and the part itself
+-- lies, 1 in the frame, 2 in the store; and the part itself; of a damaged header what is wrong with it
 pub record StepNumbers : Type 0 where
   pub refusal : ℕ
   pub outcome : ℕ
@@ -74,14 +75,15 @@ pub record StepNumbers : Type 0 where
   pub start : ℕ
   pub size : ℕ
   pub part : List ℕ
+  pub damage : ℕ
 
 -- a refusal answers its number, no count and no part
 abbrev pub refused-step : ℕ → StepNumbers
-refused-step n = record { refusal = n; outcome = 0; place = 0; start = 0; size = 0; part = [] }
+refused-step n = record { refusal = n; outcome = 0; place = 0; start = 0; size = 0; part = []; damage = 0 }
 
 -- an answer that shows no part
-abbrev pub bare : ℕ → StepNumbers
-bare outcome = record { refusal = 0; outcome = outcome; place = 0; start = 0; size = 0; part = [] }
+abbrev pub bare : ℕ → ℕ → StepNumbers
+bare outcome damage = record { refusal = 0; outcome = outcome; place = 0; start = 0; size = 0; part = []; damage = damage }
 
 -- 1 a packet, 2 an idle packet
 abbrev pub packet-or-idle : Bool → ℕ
@@ -91,11 +93,11 @@ packet-or-idle idle = pick idle 2 1
 unfoldable pub found-numbers : List ℕ → List ℕ → Found → StepNumbers
 found-numbers f store (Refused n) = refused-step n
 found-numbers f store (InFrame start size idle) =
-    record { refusal = 0; outcome = packet-or-idle idle; place = 1; start = start; size = size; part = shown f store (InFrame start size idle) }
+    record { refusal = 0; outcome = packet-or-idle idle; place = 1; start = start; size = size; part = shown f store (InFrame start size idle); damage = 0 }
 found-numbers f store (InStore size idle) =
-    record { refusal = 0; outcome = packet-or-idle idle; place = 2; start = 0; size = size; part = shown f store (InStore size idle) }
-found-numbers f store Damaged = bare 3
-found-numbers f store Spent = bare 4
+    record { refusal = 0; outcome = packet-or-idle idle; place = 2; start = 0; size = size; part = shown f store (InStore size idle); damage = 0 }
+found-numbers f store (Damaged d) = bare 3 d
+found-numbers f store Spent = bare 4 0
 
 -- an answer in numbers, the record after it, and the store that it leaves
 pub record StepSaid : Type 0 where

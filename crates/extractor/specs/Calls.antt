@@ -19,7 +19,7 @@ unfoldable pub event-at : Found → List ℕ → List Event
 event-at (Refused n) p = []
 event-at (InFrame start size idle) p = as-event idle p ∷ []
 event-at (InStore size idle) p = as-event idle p ∷ []
-event-at Damaged p = torn ∷ []
+event-at (Damaged d) p = torn d ∷ []
 event-at Spent p = []
 
 -- what steps find and say, and the record and store that they leave
@@ -47,7 +47,7 @@ abbrev pub goes-on : Found → Bool
 goes-on (Refused n) = false
 goes-on (InFrame start size idle) = true
 goes-on (InStore size idle) = true
-goes-on Damaged = true
+goes-on (Damaged d) = true
 goes-on Spent = false
 
 -- step after step with one frame, until one does not go on, as far as n steps go
@@ -100,6 +100,7 @@ all-said e t = record {
   lost = e .lost;
   dropped = e .dropped;
   reason = e .reason;
+  damage = e .damage;
   events = t .events;
   state = stands-for (t .store) (t .next);
 }

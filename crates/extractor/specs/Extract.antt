@@ -6,7 +6,7 @@ use mathlib.Core.Bool.{Bool, true, false}
 use lib.ListN.{length, take, drop}
 use lib.Dec.{leb, ltb, eqb}
 use Rattle.octets.specs.Basics.{pick, or, first}
-use Rattle.packets.specs.Packet.{Look, more, damaged, whole, look, is-idle}
+use Rattle.packets.specs.Packet.{Look, more, damaged, whole, look, damage-in, is-idle}
 use Rattle.frames.specs.Frame.{idle-zone, no-start, pointer, count, replay, zone-of, frame-rows}
 use Rattle.frames.specs.Link.{missing, count-width}
 use Rattle.frames.specs.declared.Settings.{Settings}
@@ -25,11 +25,11 @@ pub record State : Type 0 where
 abbrev pub fresh : State
 fresh = record { last = none; step = astray }
 
--- what is handed over of a zone: a packet, an idle packet, or that the rest is damaged
+-- what is handed over of a zone: a packet, an idle packet, or that the rest is damaged, and how
 pub data Event : Type 0 where
   packet : List ℕ → Event
   idle : List ℕ → Event
-  torn : Event
+  torn : ℕ → Event
 
 -- a packet that is marked idle or not
 abbrev pub as-event : Bool → List ℕ → Event
@@ -49,7 +49,7 @@ abbrev pub any-torn : List Event → Bool
 any-torn [] = false
 any-torn (packet p ∷ es) = any-torn es
 any-torn (idle p ∷ es) = any-torn es
-any-torn (torn ∷ es) = true
+any-torn (torn d ∷ es) = true
 
 -- what a walk of some octets gives: its events, and the step that it leaves
 pub record Walked : Type 0 where
@@ -67,7 +67,7 @@ ends es s = record { events = es; leaves = s }
 -- The walk of `os`, which begin a packet. A packet has an octet at least, so as many turns as there are octets are enough.
 unfoldable pub walk-look : (List ℕ → Walked) → List ℕ → Look → Walked
 walk-look go os more = ends [] (in-step os)
-walk-look go os damaged = ends (torn ∷ []) astray
+walk-look go os (damaged d) = ends (torn d ∷ []) astray
 walk-look go os (whole l) =
     pick (leb l (length os)) (after (event-of (take l os)) (go (drop l os))) (ends [] (in-step os))
 
@@ -81,7 +81,7 @@ walk limit os = walk-turns (length os) limit os
 -- The pointers that agree with `held` before the zone `z`. Where the header that they now make whole is damaged there is none.
 unfoldable pub agreed-look : Settings → List ℕ → Look → Option (List ℕ)
 agreed-look s held more = some (no-start ∷ [])
-agreed-look s held damaged = none
+agreed-look s held (damaged d) = none
 agreed-look s held (whole l) =
     some (pick (ltb (l - length held) (s .zone)) (l - length held) no-start ∷ [])
 
@@ -110,18 +110,22 @@ unfoldable pub lost-since : Settings → Option ℕ → ℕ → ℕ
 lost-since s none c = 0
 lost-since s (some last) c = missing (count-width (s .link)) last c
 
--- missing frames come first
-unfoldable pub reason-of : Settings → State → List ℕ → ℕ
-reason-of s x f = pick (eqb (lost-since s (x .last) (count s f)) 0) (reason-in s (x .step) f) 1
-
--- the step that is left after the comparison
-unfoldable pub step-of : Settings → State → List ℕ → Step
-step-of s x f = pick (eqb (reason-of s x f) 0) (x .step) astray
-
 -- the octets held
 abbrev pub held-of : Step → List ℕ
 held-of astray = []
 held-of (in-step held) = held
+
+-- missing frames come first
+unfoldable pub reason-of : Settings → State → List ℕ → ℕ
+reason-of s x f = pick (eqb (lost-since s (x .last) (count s f)) 0) (reason-in s (x .step) f) 1
+
+-- what is wrong with the header of the octets held, where they are dropped for it; 0 with any other reason
+unfoldable pub damage-of : Settings → State → List ℕ → ℕ
+damage-of s x f = pick (eqb (reason-of s x f) 3) (damage-in (look (s .limit) (held-of (x .step) ++ zone-of s f))) 0
+
+-- the step that is left after the comparison
+unfoldable pub step-of : Settings → State → List ℕ → Step
+step-of s x f = pick (eqb (reason-of s x f) 0) (x .step) astray
 
 -- what the zone gives from there
 unfoldable pub walked : Settings → Step → List ℕ → Walked
@@ -139,6 +143,7 @@ pub record Said : Type 0 where
   pub lost : ℕ
   pub dropped : ℕ
   pub reason : ℕ
+  pub damage : ℕ
   pub events : List Event
   pub state : State
 
@@ -152,6 +157,7 @@ take-in s x f =
       lost = lost-since s (x .last) (count s f);
       dropped = pick (eqb (reason-of s x f) 0) 0 (length (held-of (x .step)));
       reason = reason-of s x f;
+      damage = damage-of s x f;
       events = w .events;
       state = record { last = some (count s f); step = w .leaves };
     }

@@ -43,21 +43,22 @@ pub record Line : Type 0 where
   pub lost : ℕ
   pub dropped : ℕ
   pub reason : ℕ
+  pub damage : ℕ
   pub events : List Event
 
 -- a refused frame has its number alone
 abbrev pub line-of : Told → Line
-line-of (refused n) = record { refusal = n; count = 0; lost = 0; dropped = 0; reason = 0; events = [] }
-line-of (taken t) = record { refusal = 0; count = t .count; lost = t .lost; dropped = t .dropped; reason = t .reason; events = t .events }
+line-of (refused n) = record { refusal = n; count = 0; lost = 0; dropped = 0; reason = 0; damage = 0; events = [] }
+line-of (taken t) = record { refusal = 0; count = t .count; lost = t .lost; dropped = t .dropped; reason = t .reason; damage = t .damage; events = t .events }
 
 -- the same of each frame
 abbrev pub lines-of : List Told → List Line
 lines-of [] = []
 lines-of (t ∷ ts) = line-of t ∷ lines-of ts
 
--- a line for a frame that is entered
+-- a line for a frame that is entered, with no header damaged across zones
 abbrev pub entered : ℕ → ℕ → ℕ → ℕ → List Event → Line
-entered c l d r es = record { refusal = 0; count = c; lost = l; dropped = d; reason = r; events = es }
+entered c l d r es = record { refusal = 0; count = c; lost = l; dropped = d; reason = r; damage = 0; events = es }
 
 -- and for one that is refused
 abbrev pub refused-by : ℕ → Line
@@ -102,10 +103,10 @@ passes =
     pass (first-frame ∷ second-frame 1 3 ∷ []) (first-line ∷ second-line ∷ [])
     ∷ pass (second-frame 1 3 ∷ []) (entered 1 0 0 0 (idle-seven ∷ []) ∷ [])
     ∷ pass (first-frame ∷ second-frame 2 3 ∷ []) (first-line ∷ entered 2 1 2 1 (idle-seven ∷ []) ∷ [])
-    ∷ pass (first-frame ∷ second-frame 1 2 ∷ []) (first-line ∷ entered 1 0 2 2 (torn ∷ []) ∷ [])
-    ∷ pass (first-frame ∷ second-frame 1 9 ∷ []) (first-line ∷ entered 1 0 2 2 (torn ∷ []) ∷ [])
+    ∷ pass (first-frame ∷ second-frame 1 2 ∷ []) (first-line ∷ entered 1 0 2 2 (torn 1 ∷ []) ∷ [])
+    ∷ pass (first-frame ∷ second-frame 1 9 ∷ []) (first-line ∷ entered 1 0 2 2 (torn 1 ∷ []) ∷ [])
     ∷ pass (first-frame ∷ second-frame 1 10 ∷ []) (first-line ∷ refused-by 7 ∷ [])
-    ∷ pass (second-frame 1 9 ∷ []) (entered 1 0 0 0 (torn ∷ []) ∷ [])
+    ∷ pass (second-frame 1 9 ∷ []) (entered 1 0 0 0 (torn 1 ∷ []) ∷ [])
     ∷ pass (second-frame 1 10 ∷ []) (refused-by 7 ∷ [])
     ∷ pass (first-frame ∷ second-frame 1 2047 ∷ []) (first-line ∷ entered 1 0 2 2 [] ∷ [])
     ∷ pass (idle-frame 16777215 ∷ idle-frame 0 ∷ idle-frame 0 ∷ [])

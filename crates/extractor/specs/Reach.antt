@@ -6,7 +6,7 @@ use Prim.Native.Nat.{ℕ, zero, suc, _+_, _/_}
 use lib.ListN.{length, take, replicate}
 use lib.Dec.{leb, ltb, eqb}
 use Rattle.octets.specs.Basics.{pick, and, or, number, part, AllOctets}
-use Rattle.packets.specs.Packet.{damaged, look, header-length, packet-version, length-of-length}
+use Rattle.packets.specs.Packet.{look, Undamaged, header-length, packet-version, length-of-length}
 use Rattle.frames.specs.declared.Settings.{Settings}
 use Rattle.extractor.specs.Records.{held-in, step-call}
 use Rattle.extractor.specs.Answers.{enter-answer}
@@ -25,7 +25,7 @@ pub data Reached (s : Settings) : Extractor → List ℕ → Type 0 where
 
 -- some zone goes on with these octets
 abbrev pub CanGoOn : Settings → List ℕ → Type 0
-CanGoOn s held = (z : List ℕ) × AllOctets z × (length z ≡ s .zone) × (look (s .limit) (held ++ z) ≡ damaged → ⊥)
+CanGoOn s held = (z : List ℕ) × AllOctets z × (length z ≡ s .zone) × Undamaged (look (s .limit) (held ++ z))
 
 -- The one kind of record that the test for refusal 10 lets through and no call leads to: a frame is entered before whose zone
 -- octets are held, and no zone leaves their header undamaged. Entering would have dropped them.

@@ -21,7 +21,7 @@ use Rattle.extractor.specs.declared.Found.the-variants.{Refused, InFrame
 -- octets that begin a packet which is not yet damaged and is longer than they are
 unfoldable pub unfinished : ℕ → Look → Bool
 unfinished n more = true
-unfinished n damaged = false
+unfinished n (damaged d) = false
 unfinished n (whole l) = ltb n l
 
 -- the first h octets of the store are such, or there are none
@@ -145,7 +145,7 @@ handed-over s store last h at rest l =
 -- a step at `at` of the zone, of which `rest` is left, by what the octets held and these say
 unfoldable pub step-look : Settings → List ℕ → ℕ → ℕ → ℕ → List ℕ → Look → Stepped
 step-look s store last h at rest more = kept-for-later store last h rest
-step-look s store last h at rest damaged = steps-to Damaged (Leaving last) store
+step-look s store last h at rest (damaged d) = steps-to (Damaged d) (Leaving last) store
 step-look s store last h at rest (whole l) =
     pick (leb l (h + length rest)) (handed-over s store last h at rest l) (kept-for-later store last h rest)
 
@@ -170,5 +170,5 @@ unfoldable pub shown : List ℕ → List ℕ → Found → List ℕ
 shown f store (Refused n) = []
 shown f store (InFrame start size idle) = part-of f start size
 shown f store (InStore size idle) = part-of store 0 size
-shown f store Damaged = []
+shown f store (Damaged d) = []
 shown f store Spent = []

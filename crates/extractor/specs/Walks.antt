@@ -32,9 +32,9 @@ at-in (InStep last h) = 0
 at-in (Walking last h at) = at
 at-in (Leaving last) = 0
 
--- what the octets held say of their packet's length; damage, where the store has fewer
+-- what the octets held say of their packet's length; damage of no number, where the store has fewer
 unfoldable pub held-look : Settings → List ℕ → ℕ → Look
-held-look s store h = pick (leb h (length store)) (look (s .limit) (take h store)) damaged
+held-look s store h = pick (leb h (length store)) (look (s .limit) (take h store)) (damaged 0)
 
 -- a reading of it
 abbrev pub Says : Settings → List ℕ → ℕ → Seen → Type 0
@@ -43,7 +43,7 @@ Says s store h r = seen r ≡ held-look s store h
 -- what octets say of their packet's length where n of them are at hand: a packet that is longer is not whole yet
 unfoldable pub at-hand : ℕ → Seen → Seen
 at-hand n More = More
-at-hand n Damaged = Damaged
+at-hand n (Damaged d) = Damaged d
 at-hand n (Whole total) = pick (ltb n total) More (Whole total)
 
 -- whether the rules can reach a record with these numbers

@@ -4,7 +4,7 @@ ghost use lib.ListN.{take};
 ghost use lib.Dec.{ltb};
 ghost use Rattle.octets.specs.Basics.{pick, first};
 ghost use Rattle.frames.specs.Frame.{no-start, count};
-ghost use Rattle.extractor.specs.Extract.{in-step, lost-since, reason-in, reason-of};
+ghost use Rattle.extractor.specs.Extract.{in-step, lost-since, reason-in, reason-of, damage-of};
 ghost use Rattle.extractor.specs.Records.{enter-rows, last-count, held-in, is-in-step, stands-for, set-off};
 ghost use Rattle.extractor.specs.Answers.{enter-says, entered-as};
 ghost use Rattle.extractor.specs.Walks.{Says, Walks, PointsTo, Heads};
@@ -21,6 +21,7 @@ use frames::NO_START;
 use frames::Settings;
 use frames::ZONE_AT;
 use packets::Seen;
+use packets::damage;
 
 // Why the octets held are dropped, or that they are not.
 const KEPT: u8 = 0;
@@ -94,7 +95,7 @@ fn pointer_reason(
         ZONE_AT,
         ZONE_AT + s.zone,
     ) {
-        Seen::Damaged => HEADER_DAMAGED,
+        Seen::Damaged { .. } => HEADER_DAMAGED,
         Seen::More => compared(pointer == NO_START),
         Seen::Whole { total } => compared(pointer == next_start(s.zone, octets::rest(total, held))),
     }
@@ -123,6 +124,20 @@ fn reason_of(
         return KEPT;
     }
     pointer_reason(s, held_in(x), stated, pointer, store, frame)
+}
+
+// What is wrong with their header, where they are dropped for it.
+fn damage_of(s: Settings, x: Extractor, stated: Seen, reason: u8, store: &[u8], frame: &[u8]) -> u8
+    requires { ⌜ first (enter-rows s x (now store) (now frame)) ≡ 0 ⌝ }
+    requires { ⌜ Says s (now store) (held-in x) stated ⌝ }
+    requires { ⌜ reason ≡ reason-of s (stands-for (now store) x) (now frame) ⌝ }
+    ensures { λ r. ⌜ r ≡ damage-of s (stands-for (now (store .entry)) x) (now (frame .entry)) ⌝ }
+{
+    if reason != HEADER_DAMAGED {
+        return damage::NONE;
+    }
+    let to = ZONE_AT + s.zone;
+    packets::damage_in(length_across(s.limit, stated, store, held_in(x), frame, ZONE_AT, to))
 }
 
 // Where the walk sets out: in step with so many octets held, or out of step.
@@ -180,6 +195,7 @@ pub(crate) fn taken(
             lost,
             dropped: 0,
             reason,
+            damage: damage::NONE,
         };
         return Entering {
             entered: Entered::Taken { entry },
@@ -192,6 +208,7 @@ pub(crate) fn taken(
         lost,
         dropped: held,
         reason,
+        damage: damage_of(s, x, stated, reason, store, frame),
     };
     Entering {
         entered: Entered::Taken { entry },

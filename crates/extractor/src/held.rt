@@ -16,6 +16,7 @@ use frames::Settings;
 use frames::WHEEL;
 use octets::refusals;
 use packets::Seen;
+use packets::damage;
 
 // A header has so many octets at most.
 const MOST_HEADER: usize = 8;
@@ -63,7 +64,7 @@ fn unfinished(n: usize, length: Seen) -> bool
 {
     match length {
         Seen::More => true,
-        Seen::Damaged => false,
+        Seen::Damaged { .. } => false,
         Seen::Whole { total } => n < total,
     }
 }
@@ -74,7 +75,7 @@ pub(crate) fn at_hand(n: usize, length: Seen) -> Seen
 {
     match length {
         Seen::More => Seen::More,
-        Seen::Damaged => Seen::Damaged,
+        Seen::Damaged { damage } => Seen::Damaged { damage },
         Seen::Whole { total } => {
             if n < total {
                 return Seen::More;
@@ -84,7 +85,7 @@ pub(crate) fn at_hand(n: usize, length: Seen) -> Seen
     }
 }
 
-// What the octets held say of their packet's length; damage, where the store has fewer. No more than their header is read.
+// What the octets held say of their packet's length; damage of no number, where the store has fewer. No more than their header is read.
 pub(crate) fn stated(s: Settings, x: Extractor, store: &[u8]) -> Seen
     ensures { λ r. ⌜ Says s (now (store .entry)) (held-in x) r ⌝ }
 {
@@ -93,7 +94,9 @@ pub(crate) fn stated(s: Settings, x: Extractor, store: &[u8]) -> Seen
         return Seen::More;
     }
     if store.len() < held {
-        return Seen::Damaged;
+        return Seen::Damaged {
+            damage: damage::NONE,
+        };
     }
     packets::read_length(s.limit, &store[..held])
 }
@@ -177,7 +180,7 @@ pub(crate) fn length_across(
     ensures { λ r. ⌜ seen r ≡ look limit (take held (now (store .entry)) ++ take (to - from) (drop from (now (frame .entry)))) ⌝ }
 {
     match stated {
-        Seen::Damaged => Seen::Damaged,
+        Seen::Damaged { damage } => Seen::Damaged { damage },
         Seen::Whole { total } => Seen::Whole { total },
         Seen::More => {
             let start = start_of(store, held, frame, from, to);

@@ -32,13 +32,15 @@ pub enum Extractor {
 }
 
 // What is said of a frame that is entered: its count and replay flag, how many frames are missing before it, how many of the
-// octets held are dropped, and why: 0 they are not, 1 frames are missing, 2 the pointer differs, 3 their header is damaged.
+// octets held are dropped, and why: 0 they are not, 1 frames are missing, 2 the pointer differs, 3 their header is damaged; and
+// with 3 what is wrong with it.
 pub struct Entry {
     pub count: u32,
     pub replay: u8,
     pub lost: u32,
     pub dropped: usize,
     pub reason: u8,
+    pub damage: u8,
 }
 
 // What entering answers.
@@ -72,8 +74,10 @@ pub enum Found {
         size: usize,
         idle: bool,
     },
-    // The rest of the zone is damaged.
-    Damaged,
+    // The rest of the zone is damaged: what is wrong with the header.
+    Damaged {
+        damage: u8,
+    },
     // Nothing more in this frame.
     Spent,
 }
@@ -193,7 +197,7 @@ pub fn show<'a>(frame: &'a [u8], store: &'a [u8], found: Found) -> &'a [u8]
         Found::InFrame { start, size, .. } => octets::part(frame, start, size),
         Found::InStore { size, .. } => octets::part(store, 0, size),
         Found::Refused { .. } => octets::part(frame, 0, 0),
-        Found::Damaged => octets::part(frame, 0, 0),
+        Found::Damaged { .. } => octets::part(frame, 0, 0),
         Found::Spent => octets::part(frame, 0, 0),
     }
 }

@@ -33,11 +33,11 @@ fn keep(last: u32, held: usize, store: &mut [u8], frame: &[u8], from: usize, to:
 }
 
 // The rest of the zone is abandoned.
-fn abandoned(last: u32) -> Move
-    ensures { λ r. ⌜ (r .found ≡ Found.Damaged) × (r .next ≡ Extractor.Leaving last) ⌝ }
+fn abandoned(last: u32, damage: u8) -> Move
+    ensures { λ r. ⌜ (r .found ≡ Found.Damaged damage) × (r .next ≡ Extractor.Leaving last) ⌝ }
 {
     Move {
-        found: Found::Damaged,
+        found: Found::Damaged { damage },
         next: Extractor::Leaving { last },
     }
 }
@@ -58,7 +58,7 @@ fn walk(s: Settings, last: u32, at: usize, store: &mut [u8], frame: &[u8]) -> Mo
     let to = ZONE_AT + s.zone;
     let left = &frame[from..to];
     match at_hand(to - from, packets::read_length(s.limit, left)) {
-        Seen::Damaged => abandoned(last),
+        Seen::Damaged { damage } => abandoned(last, damage),
         Seen::More => keep(last, 0, store, frame, from, to),
         Seen::Whole { total } => {
             let found = Found::InFrame {
@@ -88,7 +88,7 @@ fn complete(
     let to = ZONE_AT + s.zone;
     let length = length_across(s.limit, stated, store, held, frame, ZONE_AT, to);
     match at_hand(held + s.zone, length) {
-        Seen::Damaged => abandoned(last),
+        Seen::Damaged { damage } => abandoned(last, damage),
         Seen::More => keep(last, held, store, frame, ZONE_AT, to),
         Seen::Whole { total } => {
             let rest = octets::rest(total, held);

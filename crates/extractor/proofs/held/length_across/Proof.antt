@@ -20,7 +20,7 @@ start-of-requires c κs =
     let at-start = c .before .before .before .before in
     let a = at-start .args in
     let few : length (take (a .held) (a .store .now)) < 8 =
-    more-short (a .limit) (take (a .held) (a .store .now)) (at-start .pre .0 .0) (sym (at-start .pre .1 .1) ∙ ap seen (c .enum-told2 .given .1)) in
+    more-short (a .limit) (take (a .held) (a .store .now)) (at-start .pre .0 .0) (sym (at-start .pre .1 .1) ∙ ap seen (c .enum-told .given .1)) in
     let held : length (take (a .held) (a .store .now)) ≡ a .held = length-take-le _ _ (at-start .pre .0 .1) in
     ((omega arith, at-start .pre .0 .1), at-start .pre .1 .0)
 
@@ -33,14 +33,14 @@ within c =
 returns : tie.Need-returns
 unfolding seen
 returns c =
-    let at-start = c .before .before .before .before in
-    sym (damaged-append (at-start .args .limit) _ _ (at-start .pre .0 .0) (sym (at-start .pre .1 .1) ∙ ap seen (c .enum-told .given .1)))
+    let at-start = c .before .before .before .before .before in
+    sym (damaged-append (at-start .args .limit) _ _ (at-start .pre .0 .0) (sym (at-start .pre .1 .1) ∙ ap seen (c .before .stated .given .1)))
 
 returns-2 : tie.Need-returns-2
 unfolding seen
 returns-2 c =
     let at-start = c .before .before .before .before .before in
-    sym (look-append (at-start .args .limit) _ _ (at-start .pre .0 .0) (sym (at-start .pre .1 .1) ∙ ap seen (c .before .stated .given .1)))
+    sym (look-append (at-start .args .limit) _ _ (at-start .pre .0 .0) (sym (at-start .pre .1 .1) ∙ ap seen (c .before .stated2 .given .1)))
 
 returns-3 : tie.Need-returns-3
 returns-3 c =

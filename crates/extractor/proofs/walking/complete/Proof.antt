@@ -32,7 +32,7 @@ keep-requires c κs =
     let at-hand = c .before .before .before in
     let p = plain (start at-hand .pre .0 .0) in
     let r = kept-room (start at-hand .pre .0 .0) (start at-hand .args .last) _ (at-hand .before .before .length-across .ensures) (omega arith) (at-hand .at-hand .ensures)
-    (c .before .enum-told2 .given .1) in
+    (c .before .enum-told .given .1) in
     ((omega (arith, p), omega (arith, p)), r)
 
 add-lay : tie.Need-add-lay
@@ -45,17 +45,17 @@ add-lay c =
 
 returns : tie.Need-returns
 returns c =
-    let at-hand = c .before .before .before in
+    let at-hand = c .before .before .before .before in
     rw (c .abandoned .ensures .0, c .abandoned .ensures .1)
     (step-torn (start at-hand .pre .0 .0) (start at-hand .args .last) _ (at-hand .before .before .length-across .ensures) (omega arith) (at-hand .at-hand .ensures)
-    (c .before .enum-told .given .1))
+    (c .before .before .damage .given .1))
 
 returns-2 : tie.Need-returns-2
 returns-2 c =
     let at-hand = c .before .before .before .before .before .before in
     c .before .before .keep .ensures
     ∙ step-kept (start at-hand .pre .0 .0) (start at-hand .args .last) _ (at-hand .before .before .length-across .ensures) (omega arith) (at-hand .at-hand .ensures)
-    (c .before .before .before .before .enum-told2 .given .1)
+    (c .before .before .before .before .enum-told .given .1)
 
 returns-3 : tie.Need-returns-3
 returns-3 c =
