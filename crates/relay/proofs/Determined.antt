@@ -9,18 +9,18 @@ use Rattle.relay.specs.Route.{Routing, routes}
 use Rattle.relay.specs.declared.Routed.{Routed}
 
 routed-back : Routing → Routed
-routed-back r = pick (eqb (r .outcome) 0) (Routed.Refused (r .refusal)) (pick (eqb (r .outcome) 1) Routed.NoPath (Routed.Path (r .count)))
+routed-back r = pick (eqb (r .outcome) 0) (Routed.Refused (r .refusal) (r .damage)) (pick (eqb (r .outcome) 1) Routed.NoPath (Routed.Path (r .count)))
 
 routed-undo : (r : Routed) (output : List ℕ) → routed-back (routes r output) ≡ r
 unfolding routed-back routes
-routed-undo (Routed.Refused n) output = refl
+routed-undo (Routed.Refused n d) output = refl
 routed-undo Routed.NoPath output = refl
 routed-undo (Routed.Path n) output = refl
 
 -- an answer says which octets it goes with
 pub output-undo : (r : Routed) (output : List ℕ) → routes r output .output ≡ output
 unfolding routes
-output-undo (Routed.Refused n) output = refl
+output-undo (Routed.Refused n d) output = refl
 output-undo Routed.NoPath output = refl
 output-undo (Routed.Path n) output = refl
 

@@ -12,7 +12,7 @@ use borrow.Author.Tests.{eq-eqb, ne-eqb}
 use Rattle.octets.specs.Basics.{first}
 use Rattle.octets.proofs.Tests.{test}
 use Rattle.octets.proofs.Choices.{apart}
-use Rattle.packets.specs.Packet.{Look, more, damaged, whole, look, limit-in-range, states, well-formed, packet-version, key-of, apid}
+use Rattle.packets.specs.Packet.{Look, more, damaged, whole, look, damage-in, carried, limit-in-range, states, well-formed, packet-version, key-of, apid}
 use Rattle.packets.specs.Header.{Reading, bare, told, reading, version-of, answer}
 use Rattle.packets.specs.declared.Header.{Header}
 use Rattle.packets.specs.declared.Header.the-variants.{Refused, More, Damaged, Whole}
@@ -28,11 +28,11 @@ use Rattle.relay.proofs.Ways.{path-encapsulation, path-apid, malformed,
 told-something : (os : List ℕ) (l : Look) → told os l .outcome ≡ 0 → ⊥
 unfolding told
 told-something os more e = omega (arith, e)
-told-something os damaged e = omega (arith, e)
+told-something os (damaged d) e = omega (arith, e)
 told-something os (whole n) e = omega (arith, e)
 
 module _ (limit : ℕ) (p : List ℕ) where
-  out-of-range : {n : ℕ} → bare n 0 ≡ reading limit p → (limit-in-range limit ≡ false) × (n ≡ 1)
+  out-of-range : {n : ℕ} → bare n 0 0 ≡ reading limit p → (limit-in-range limit ≡ false) × (n ≡ 1)
   unfolding reading
   out-of-range {n} e =
       test (limit-in-range limit)
@@ -43,7 +43,7 @@ module _ (limit : ℕ) (p : List ℕ) where
   unfolding reading answer
   in-range (Refused n) k e = absurd (miss (1 ∷ 2 ∷ 3 ∷ []) 0 tt k)
   in-range More k e = test (limit-in-range limit) (λ t. t) (λ t. let z : _≡_ {A = ℕ} 1 0 = ap (λ (r : Reading). r .outcome) (rw t at e) in apart (omega arith))
-  in-range Damaged k e = test (limit-in-range limit) (λ t. t) (λ t. let z : _≡_ {A = ℕ} 2 0 = ap (λ (r : Reading). r .outcome) (rw t at e) in apart (omega arith))
+  in-range (Damaged d) k e = test (limit-in-range limit) (λ t. t) (λ t. let z : _≡_ {A = ℕ} 2 0 = ap (λ (r : Reading). r .outcome) (rw t at e) in apart (omega arith))
   in-range (Whole kind key idle size total) k e =
       test (limit-in-range limit) (λ t. t) (λ t. let z : _≡_ {A = ℕ} 3 0 = ap (λ (r : Reading). r .outcome) (rw t at e) in apart (omega arith))
 
@@ -52,16 +52,25 @@ module _ (limit : ℕ) (p : List ℕ) where
     unfolding reading
     as-told h e = rw l at e
 
+    its-damage : (h : Header) → answer h ≡ reading limit p → answer h .damage ≡ damage-in (look limit p)
+    unfolding told damage-in
+    its-damage h e = ap (λ (r : Reading). r .damage) (as-told h e) ∙ go (look limit p)
+      where
+        go : (a : Look) → told p a .damage ≡ damage-in a
+        go more = refl
+        go (damaged d) = refl
+        go (whole n) = refl
+
     not-whole : (h : Header) → OneOf (0 ∷ 1 ∷ 2 ∷ []) (tagOf the-type h) → answer h ≡ reading limit p → well-formed limit p ≡ false
     unfolding answer told well-formed states
     not-whole h k e = go (look limit p) h k (as-told h e)
       where
         go : (a : Look) (h : Header) → OneOf (0 ∷ 1 ∷ 2 ∷ []) (tagOf the-type h) → answer h ≡ told p a → states (length p) a ≡ false
         go more h k e = refl
-        go damaged h k e = refl
+        go (damaged d) h k e = refl
         go (whole n) (Refused m) k e = apart (let z : _≡_ {A = ℕ} 0 3 = ap (λ (r : Reading). r .outcome) e in omega arith)
         go (whole n) More k e = apart (let z : _≡_ {A = ℕ} 1 3 = ap (λ (r : Reading). r .outcome) e in omega arith)
-        go (whole n) Damaged k e = apart (let z : _≡_ {A = ℕ} 2 3 = ap (λ (r : Reading). r .outcome) e in omega arith)
+        go (whole n) (Damaged d) k e = apart (let z : _≡_ {A = ℕ} 2 3 = ap (λ (r : Reading). r .outcome) e in omega arith)
         go (whole n) (Whole kind key idle size total) k e = absurd (miss (0 ∷ 1 ∷ 2 ∷ []) 3 tt k)
 
     module _ (kind : Kind) (key : ℕ) (idle : Bool) (size total : ℕ) (e : answer (Whole kind key idle size total) ≡ reading limit p) where
@@ -72,7 +81,7 @@ module _ (limit : ℕ) (p : List ℕ) where
         where
           go : (a : Look) → answer (Whole kind key idle size total) ≡ told p a → (a ≡ whole total) × ((version-of kind ≡ packet-version (getD p 0 0)) × (key ≡ key-of p))
           go more d = apart (let z : _≡_ {A = ℕ} 3 1 = ap (λ (r : Reading). r .outcome) d in omega arith)
-          go damaged d = apart (let z : _≡_ {A = ℕ} 3 2 = ap (λ (r : Reading). r .outcome) d in omega arith)
+          go (damaged n) d = apart (let z : _≡_ {A = ℕ} 3 2 = ap (λ (r : Reading). r .outcome) d in omega arith)
           go (whole n) d = (ap whole (sym (ap (λ (r : Reading). r .total) d)), (ap (λ (r : Reading). r .version) d, ap (λ (r : Reading). r .key) d))
 
       another-length : (total ≡ length p → ⊥) → well-formed limit p ≡ false
@@ -88,8 +97,9 @@ module _ (limit : ℕ) (p : List ℕ) where
       its-apid v = says .1 .1 ∙ rw (sym (says .1 .0) ∙ v) refl
 
       module _ (t : Table) (out : List ℕ) (m : is-table t ≡ true) where
-        pub torn : (total ≡ length p → ⊥) → refused 8 out ≡ routing limit t p out
-        torn n = sym (malformed limit t p out l m (another-length n))
+        pub torn : (total ≡ length p → ⊥) → refused 8 0 out ≡ routing limit t p out
+        unfolding damage-in
+        torn n = sym (malformed limit t p out l m (another-length n) ∙ ap (λ (a : Look). refused 8 (damage-in a) out) (says .0))
 
         pub to-nowhere : total ≡ length p → version-of kind ≡ 7 → no-path out ≡ routing limit t p out
         to-nowhere n v = sym (nowhere limit t p out l m (its-length n) (path-encapsulation (entries-of t) p (sym (says .1 .0) ∙ v)))
@@ -102,14 +112,14 @@ module _ (limit : ℕ) (p : List ℕ) where
             (path-apid (entries-of t) p (its-entries t m .1) (sym (says .1 .0) ∙ v) ∙ ap (λ (a : ℕ). destinations a (entries-of t)) (sym (its-apid v))))
 
 module _ (limit : ℕ) (t : Table) (p out : List ℕ) where
-  pub turned-away : {n : ℕ} → answer (Refused n) ≡ reading limit p → refused n out ≡ routing limit t p out
-  unfolding answer routing route-rows first
+  pub turned-away : {n : ℕ} → answer (Refused n) ≡ reading limit p → refused n 0 out ≡ routing limit t p out
+  unfolding answer routing route-rows first carried
   turned-away e = let k = out-of-range limit p e in rw (k .0, k .1) refl
 
-  pub no-table : limit-in-range limit ≡ true → is-table t ≡ false → refused 10 out ≡ routing limit t p out
-  unfolding routing route-rows first
+  pub no-table : limit-in-range limit ≡ true → is-table t ≡ false → refused 10 0 out ≡ routing limit t p out
+  unfolding routing route-rows first carried
   no-table l m = rw (l, m) refl
 
   pub no-packet : limit-in-range limit ≡ true → is-table t ≡ true → (h : Header) → OneOf (0 ∷ 1 ∷ 2 ∷ []) (tagOf the-type h)
-      → answer h ≡ reading limit p → refused 8 out ≡ routing limit t p out
-  no-packet l m h k e = sym (malformed limit t p out l m (not-whole limit p l h k e))
+      → answer h ≡ reading limit p → refused 8 (answer h .damage) out ≡ routing limit t p out
+  no-packet l m h k e = ap (λ (d : ℕ). refused 8 d out) (its-damage limit p l h e) ∙ sym (malformed limit t p out l m (not-whole limit p l h k e))

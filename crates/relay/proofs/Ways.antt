@@ -14,7 +14,7 @@ use Rattle.octets.specs.Basics.{first, over, part-fits, laid-part, Lays}
 use Rattle.octets.proofs.Written.{part-within, part-past}
 use Rattle.octets.proofs.Tests.{test}
 use Rattle.octets.proofs.Choices.{split, or-false}
-use Rattle.packets.specs.Packet.{limit-in-range, well-formed, packet-version, apid, is-idle}
+use Rattle.packets.specs.Packet.{limit-in-range, look, damage-in, carried, well-formed, packet-version, apid, is-idle}
 use Rattle.relay.specs.Table.{pair, above, unfit, entries-of, is-table}
 use Rattle.relay.specs.Route.{destinations, path, route-rows, refused, no-path, written, handed, routing}
 use Rattle.relay.specs.Laws.{Routes}
@@ -78,7 +78,7 @@ module _ (list out : List ℕ) (count : ℕ) (h : count ≤ length list) {r : �
   fits : part-fits out 0 0 count list ≡ leb count (length out)
   fits = rw (le-leb 0 count (omega arith), le-leb count (length list) h) (ap (λ (n : ℕ). leb n (length out)) (omega arith))
 
-  pub laid-none : (r ≡ 0 → ⊥) → refused r left ≡ handed (take count list) out
+  pub laid-none : (r ≡ 0 → ⊥) → refused r 0 left ≡ handed (take count list) out
   unfolding handed
   laid-none n =
       split count (length out) (λ k. absurd (n (laid .answer ∙ rw (fits, le-leb count (length out) k) refl)))
@@ -109,22 +109,22 @@ module _ (list out : List ℕ) (count : ℕ) (h : count ≤ length list) {r : �
   unfolding written
   sent-nowhere e z = rw (laid-there e, laid-handed e, z) refl
 
-  pub sent : r ≡ 0 → (count ≡ 0 → ⊥) → record { refusal = 0; outcome = 2; count = count; output = left } ≡ handed (take count list) out
+  pub sent : r ≡ 0 → (count ≡ 0 → ⊥) → record { refusal = 0; damage = 0; outcome = 2; count = count; output = left } ≡ handed (take count list) out
   unfolding written
   sent e z = rw (laid-there e, laid-handed e) (some (take count list) long)
     where
-      some : (ds : List ℕ) → length ds ≡ count → record { refusal = 0; outcome = 2; count = count; output = ds ++ drop count out } ≡ written ds out
+      some : (ds : List ℕ) → length ds ≡ count → record { refusal = 0; damage = 0; outcome = 2; count = count; output = ds ++ drop count out } ≡ written ds out
       some [] n = absurd (z (sym n))
       some (d ∷ ds) n = rw (← n) refl
 
 -- where limit and table are in order
 module _ (limit : ℕ) (t : Table) (p output : List ℕ) (l : limit-in-range limit ≡ true) (m : is-table t ≡ true) where
-  pub malformed : well-formed limit p ≡ false → routing limit t p output ≡ refused 8 output
-  unfolding routing route-rows first
+  pub malformed : well-formed limit p ≡ false → routing limit t p output ≡ refused 8 (damage-in (look limit p)) output
+  unfolding routing route-rows first carried
   malformed w = rw (l, m, w) refl
 
   pub formed : well-formed limit p ≡ true → routing limit t p output ≡ handed (path (entries-of t) p) output
-  unfolding routing route-rows first handed
+  unfolding routing route-rows first handed carried
   formed w = rw (l, m, w) (test (ltb (length output) (length (path (entries-of t) p))) (λ r. rw r refl) (λ r. rw r refl))
 
   pub nowhere : well-formed limit p ≡ true → path (entries-of t) p ≡ [] → routing limit t p output ≡ no-path output
@@ -147,6 +147,6 @@ module _ (limit : ℕ) (t : Table) (p output : List ℕ) (l : limit-in-range lim
   }
     where
       whole : (ds : List ℕ) → 1 ≤ length ds → length ds ≤ length output
-          → handed ds output ≡ record { refusal = 0; outcome = 2; count = length ds; output = ds ++ drop (length ds) output }
+          → handed ds output ≡ record { refusal = 0; damage = 0; outcome = 2; count = length ds; output = ds ++ drop (length ds) output }
       whole [] h r = absurd (omega arith)
       whole (d ∷ ds) h r = rw (le-ltb (length output) (length (d ∷ ds)) r) refl

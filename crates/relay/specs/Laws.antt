@@ -4,7 +4,7 @@ use Prim.Native.Nat.{ℕ, _≤_, _<_}
 use mathlib.Core.List.{List, _∷_, _++_, List·Memᴰ}
 use mathlib.Core.Bool.{true, false}
 use lib.ListN.{length, take, drop, getD}
-use Rattle.packets.specs.Packet.{limit-in-range, well-formed, packet-version, apid, is-idle}
+use Rattle.packets.specs.Packet.{limit-in-range, look, damage-in, well-formed, packet-version, apid, is-idle}
 use Rattle.relay.specs.Table.{pair, twice, entries-of, is-table, loading}
 use Rattle.relay.specs.Route.{destinations, refused, no-path, routing}
 use Rattle.relay.specs.declared.Entry.{Entry}
@@ -44,8 +44,8 @@ pub record Destines (apid : ℕ) (es : List Entry) : Type 0 where
 
 -- routing, where limit and table are in order
 pub record Routes (limit : ℕ) (t : Table) (p output : List ℕ) : Type 0 where
-  -- a packet that is not well formed is refused by 8, an encapsulation packet too
-  pub malformed : well-formed limit p ≡ false → routing limit t p output ≡ refused 8 output
+  -- a packet that is not well formed is refused by 8, an encapsulation packet too, and what is wrong with its header is named
+  pub malformed : well-formed limit p ≡ false → routing limit t p output ≡ refused 8 (damage-in (look limit p)) output
   -- idle packets, encapsulation packets and APIDs without an entry have no path, whatever room there is
   pub idle : well-formed limit p ≡ true → is-idle p ≡ true → routing limit t p output ≡ no-path output
   pub encapsulation : well-formed limit p ≡ true → packet-version (getD p 0 0) ≡ 7 → routing limit t p output ≡ no-path output
@@ -57,13 +57,14 @@ pub record Routes (limit : ℕ) (t : Table) (p output : List ℕ) : Type 0 where
       → routing limit t p output
       ≡ record {
         refusal = 0;
+        damage = 0;
         outcome = 2;
         count = length (destinations (apid p) (entries-of t));
         output = destinations (apid p) (entries-of t) ++ drop (length (destinations (apid p) (entries-of t))) output;
       }
   -- and is refused by 2 where there is no room for these
   pub no-room : well-formed limit p ≡ true → is-idle p ≡ false → packet-version (getD p 0 0) ≡ 0
-      → length output < length (destinations (apid p) (entries-of t)) → routing limit t p output ≡ refused 2 output
+      → length output < length (destinations (apid p) (entries-of t)) → routing limit t p output ≡ refused 2 0 output
 
 -- so it is of every call
 pub record Relays : Type 0 where

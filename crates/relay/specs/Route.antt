@@ -6,7 +6,7 @@ use mathlib.Core.Bool.{not}
 use lib.ListN.{length, take, drop}
 use lib.Dec.{ltb, eqb}
 use Rattle.octets.specs.Basics.{pick, Row, row, first}
-use Rattle.packets.specs.Packet.{limit-in-range, well-formed, apid, by-kind, is-idle}
+use Rattle.packets.specs.Packet.{limit-in-range, carried, well-formed, apid, by-kind, is-idle}
 use Rattle.relay.specs.Table.{entries-of, is-table}
 use Rattle.relay.specs.declared.Entry.{Entry}
 use Rattle.relay.specs.declared.Table.{Table}
@@ -36,39 +36,40 @@ route-rows limit t p room =
     ∷ row 2 (ltb room (length (path (entries-of t) p)))
     ∷ []
 
--- what comes of a call: the refusal, or 0; 1 no path, 2 a path, 0 where the call is refused; how many destinations are written;
--- and the lent octets
+-- what comes of a call: the refusal, or 0; what is wrong with the header of a packet refused by 8, or 0; 1 no path, 2 a path, 0 where the
+-- call is refused; how many destinations are written; and the lent octets
 pub record Routing : Type 0 where
   pub refusal : ℕ
+  pub damage : ℕ
   pub outcome : ℕ
   pub count : ℕ
   pub output : List ℕ
 
 -- a refused call writes nothing
-abbrev pub refused : ℕ → List ℕ → Routing
-refused n output = record { refusal = n; outcome = 0; count = 0; output = output }
+abbrev pub refused : ℕ → ℕ → List ℕ → Routing
+refused n damage output = record { refusal = n; damage = damage; outcome = 0; count = 0; output = output }
 
 -- where there is no path nothing is written either
 abbrev pub no-path : List ℕ → Routing
-no-path output = record { refusal = 0; outcome = 1; count = 0; output = output }
+no-path output = record { refusal = 0; damage = 0; outcome = 1; count = 0; output = output }
 
 -- destinations are written over the front of the lent octets; where there are none, there is no path
 unfoldable pub written : List ℕ → List ℕ → Routing
 written [] output = no-path output
-written (d ∷ ds) output = record { refusal = 0; outcome = 2; count = length (d ∷ ds); output = (d ∷ ds) ++ drop (length (d ∷ ds)) output }
+written (d ∷ ds) output = record { refusal = 0; damage = 0; outcome = 2; count = length (d ∷ ds); output = (d ∷ ds) ++ drop (length (d ∷ ds)) output }
 
 -- the same where there is room for them
 unfoldable pub handed : List ℕ → List ℕ → Routing
-handed ds output = pick (ltb (length output) (length ds)) (refused 2 output) (written ds output)
+handed ds output = pick (ltb (length output) (length ds)) (refused 2 0 output) (written ds output)
 
 -- the rule: what is not refused is written
 unfoldable pub routing : ℕ → Table → List ℕ → List ℕ → Routing
 routing limit t p output =
     let refusal : ℕ = first (route-rows limit t p (length output)) in
-    pick (eqb refusal 0) (written (path (entries-of t) p) output) (refused refusal output)
+    pick (eqb refusal 0) (written (path (entries-of t) p) output) (refused refusal (carried refusal limit p) output)
 
 -- an answer, and the lent octets as they are left
 unfoldable pub routes : Routed → List ℕ → Routing
-routes (Routed.Refused n) output = refused n output
+routes (Routed.Refused n damage) output = refused n damage output
 routes Routed.NoPath output = no-path output
-routes (Routed.Path count) output = record { refusal = 0; outcome = 2; count = count; output = output }
+routes (Routed.Path count) output = record { refusal = 0; damage = 0; outcome = 2; count = count; output = output }

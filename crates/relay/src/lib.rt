@@ -13,6 +13,7 @@ ghost use Rattle.relay.specs.Route.{Found, handed, routing, routes};
 use octets::refusals;
 use packets::Header;
 use packets::Kind;
+use packets::damage;
 
 // A table has so many entries at most.
 pub const MOST_ENTRIES: usize = 32;
@@ -46,7 +47,8 @@ pub struct Loaded {
 
 // What comes of routing a packet.
 pub enum Routed {
-    Refused { refusal: u8 },
+    // The number of the refusal; and of refusal 8 what is wrong with the packet's header, or 0.
+    Refused { refusal: u8, damage: u8 },
     // The packet goes nowhere.
     NoPath,
     // So many destinations are written.
@@ -202,7 +204,10 @@ fn send(d: Listed, out: &mut [u8]) -> Routed
     let list = d.list;
     let refusal = octets::lay(out, 0, &list, 0, count);
     if refusal != 0 {
-        return Routed::Refused { refusal };
+        return Routed::Refused {
+            refusal,
+            damage: damage::NONE,
+        };
     }
     if count == 0 {
         return Routed::NoPath;
@@ -224,11 +229,13 @@ fn by_header(t: Table, header: Header, len: usize, out: &mut [u8]) -> Routed
     else {
         return Routed::Refused {
             refusal: refusals::PACKET,
+            damage: packets::header_damage(header),
         };
     };
     if total != len {
         return Routed::Refused {
             refusal: refusals::PACKET,
+            damage: damage::NONE,
         };
     }
     let Kind::Space = kind else {
@@ -244,11 +251,15 @@ pub fn route(limit: usize, t: Table, packet: &[u8], out: &mut [u8]) -> Routed
 {
     let header = packets::read_header(limit, packet);
     if let Header::Refused { refusal } = header {
-        return Routed::Refused { refusal };
+        return Routed::Refused {
+            refusal,
+            damage: damage::NONE,
+        };
     }
     if !is_table(t) {
         return Routed::Refused {
             refusal: refusals::RECORD,
+            damage: damage::NONE,
         };
     }
     by_header(t, header, packet.len(), out)

@@ -14,9 +14,9 @@ use Rattle.relay.proofs.by_header.Tie as tie
 returns : tie.Need-returns
 unfolding routes
 returns c =
-    let at-start = c .before .before in
+    let at-start = c .before .before .before in
     let a = at-start .args in
-    λ limit p l n e. no-packet limit (a .t) p (a .out .now) l (at-start .pre) (a .header) (c .match .keys2) e
+    rw (c .header-damage .ensures) (λ limit p l n e. no-packet limit (a .t) p (a .out .now) l (at-start .pre) (a .header) (c .before .match .keys2) e)
 
 returns-2 : tie.Need-returns-2
 unfolding routes
@@ -64,6 +64,7 @@ by-header-spec =
     tie.close
     (tie.spec
     (λ c. search needs)
+    (λ c κs. search needs)
     returns
     returns-2
     (λ c. search needs)
