@@ -37,7 +37,7 @@ answer-passes s m c frame e =
     let n : ℕ = first (call-rows s m c (length frame)) in
     test (eqb n 0)
     (λ t. call-reachable s m c frame (eqb-true n 0 t))
-    (λ t. ap (λ (a : Answer). mux-reachable s (a .mux)) (refused s m c frame refl (eqb-false n 0 t)) ∙ e)
+    (λ t. ap (λ (a : Answer). mux-reachable s (a .mux)) (refused s m c frame refl (eqb-false n 0 t) refl) ∙ e)
 
 reached-passes : {s : Settings} {m : Mux} → Settled s → Reached s m → mux-reachable s m ≡ true
 reached-passes {s} range begins = empty-passes s range 0 0 (pow-pos (count-width (s .link))) (omega (arith, range .limit-least))

@@ -14,6 +14,7 @@ use frames::Settings;
 use frames::WHEEL;
 use frames::ZONE_AT;
 use octets::refusals;
+use packets::damage;
 
 // What a multiplexer keeps between calls.
 pub struct Mux {
@@ -29,8 +30,8 @@ pub struct Mux {
 
 // What a call answers, with the record to go on with.
 pub enum Reply {
-    // The number of the refusal; the record is the one that was given.
-    Refused { refusal: u8, mux: Mux },
+    // The number of the refusal, and of refusal 8 what is wrong with the packet's header, or 0; the record is the one that was given.
+    Refused { refusal: u8, damage: u8, mux: Mux },
     // Whether the zone is full, and whether the packet is taken; both may hold.
     Done { full: bool, taken: bool, mux: Mux },
 }
@@ -219,7 +220,11 @@ pub fn put(s: Settings, m: Mux, p: &[u8], frame: &mut [u8]) -> Reply
 {
     let refusal = put_refusal(s, m, p, frame.len());
     if refusal != 0 {
-        return Reply::Refused { refusal, mux: m };
+        return Reply::Refused {
+            refusal,
+            damage: packets::carried(refusal, s.limit, p),
+            mux: m,
+        };
     }
     lay_packet(s, m, p, frame)
 }
@@ -230,7 +235,11 @@ pub fn flush(s: Settings, m: Mux, frame: &mut [u8]) -> Reply
 {
     let refusal = flush_refusal(s, m, frame.len());
     if refusal != 0 {
-        return Reply::Refused { refusal, mux: m };
+        return Reply::Refused {
+            refusal,
+            damage: damage::NONE,
+            mux: m,
+        };
     }
     if m.filled == 0 {
         return Reply::Done {
@@ -248,7 +257,11 @@ pub fn idle_zone(s: Settings, m: Mux, frame: &mut [u8]) -> Reply
 {
     let refusal = idle_refusal(s, m, frame.len());
     if refusal != 0 {
-        return Reply::Refused { refusal, mux: m };
+        return Reply::Refused {
+            refusal,
+            damage: damage::NONE,
+            mux: m,
+        };
     }
     lay_idle_zone(s, m, frame)
 }

@@ -13,7 +13,7 @@ returns : tie.Need-returns
 unfolding answers
 returns c =
     let a = c .before .before .before .args in
-    sym (refused (a .s) (a .m) to-flush (a .frame .now) (c .before .flush-refusal .ensures) (c .if1 .taken))
+    sym (refused (a .s) (a .m) to-flush (a .frame .now) (c .before .flush-refusal .ensures) (c .if1 .taken) refl)
 
 returns-2 : tie.Need-returns-2
 unfolding answers flush

@@ -1,6 +1,6 @@
 -- `multiplexer::idle_zone` meets its contract: the first row that holds refuses, and else the zone is filled.
 -- Assumes nothing.
-use mathlib.Core.Path.{sym, _∙_}
+use mathlib.Core.Path.{refl, sym, _∙_}
 use Rattle.multiplexer.specs.Calls.{to-idle, answers}
 use Rattle.multiplexer.proofs.Answers.{refused, done}
 use borrow.Author.Needs.{needs}
@@ -11,7 +11,7 @@ returns : tie.Need-returns
 unfolding answers
 returns c =
     let a = c .before .before .before .args in
-    sym (refused (a .s) (a .m) to-idle (a .frame .now) (c .before .idle-refusal .ensures) (c .if1 .taken))
+    sym (refused (a .s) (a .m) to-idle (a .frame .now) (c .before .idle-refusal .ensures) (c .if1 .taken) refl)
 
 returns-2 : tie.Need-returns-2
 returns-2 c =

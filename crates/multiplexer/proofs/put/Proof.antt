@@ -10,8 +10,9 @@ use Rattle.multiplexer.proofs.put.Tie as tie
 returns : tie.Need-returns
 unfolding answers
 returns c =
-    let a = c .before .before .before .before .args in
-    sym (refused (a .s) (a .m) (to-put (a .p .now)) (a .frame .now) (c .before .put-refusal .ensures) (c .if1 .taken))
+    let at-refusal = c .before .before in
+    let a = at-refusal .before .before .before .args in
+    sym (refused (a .s) (a .m) (to-put (a .p .now)) (a .frame .now) (at-refusal .put-refusal .ensures) (c .before .if1 .taken) (c .carried .ensures))
 
 returns-2 : tie.Need-returns-2
 returns-2 c =
@@ -23,4 +24,4 @@ returns-2 c =
 
 pub put-spec : {M : Type 1} → statement M
 put-spec =
-    tie.close (tie.spec (λ c κs. search needs) returns (λ c κs. search needs) (λ c. search needs) returns-2)
+    tie.close (tie.spec (λ c κs. search needs) (λ c κs. search needs) returns (λ c κs. search needs) (λ c. search needs) returns-2)
