@@ -281,7 +281,7 @@ idle-agrees s z p e = rw e
 agrees-idle-look : (s : Settings) (held : List ℕ) (seen : Look) → s .zone ≤ idle-zone → reason-by idle-zone (agreed-look s held seen) ≡ 0 → ⊥
 unfolding reason-by agreed-look
 agrees-idle-look s held more h r = omega arith
-agrees-idle-look s held damaged h r = omega arith
+agrees-idle-look s held (damaged d) h r = omega arith
 agrees-idle-look s held (whole l) h r = go (ltb (l - length held) (s .zone)) refl r
   where
     go : (t : Bool) → ltb (l - length held) (s .zone) ≡ t → pick {A = ℕ} (or (eqb idle-zone (pick t (l - length held) no-start)) false) 0 2 ≡ 0 → ⊥

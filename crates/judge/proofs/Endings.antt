@@ -39,7 +39,7 @@ walk-ending (suc n) limit os = go (λ rest. walk-ending n limit rest) (look limi
   where
     go : ((rest : List ℕ) → Ending (walk-turns n limit rest)) → (r : Look) → Ending (walk-look (λ rest. walk-turns n limit rest) os r)
     go later more = whole-yet refl
-    go later damaged = broken refl
+    go later (damaged d) = broken refl
     go later (whole l) =
         test (leb l (length os))
         (λ t. rw t (packet-ending (take l os) (later (drop l os))))

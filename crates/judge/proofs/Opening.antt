@@ -14,7 +14,7 @@ use Rattle.frames.specs.declared.Heading.{Heading}
 use Rattle.frames.specs.declared.Settings.{Settings}
 use Rattle.frames.proofs.Accepted.{accepted-heading}
 use Rattle.frames.proofs.Wheel.{count-before, before-on-wheel, count-lt, follows-before}
-use Rattle.extractor.specs.Extract.{lost-since, reason-of, step-of, take-in}
+use Rattle.extractor.specs.Extract.{lost-since, reason-of, damage-of, step-of, take-in}
 use Rattle.extractor.specs.Records.{on-wheel, stands-for, enter}
 use Rattle.extractor.specs.declared.Extractor.{Extractor}
 use Rattle.extractor.specs.declared.Extractor.the-variants.{InStep}
@@ -31,7 +31,7 @@ ready-on-wheel s c = lt-ltb (count-before (count-width (s .link)) c) (2 ^ count-
 
 module _ (s : Settings) (store f : List ℕ) where
   pub says-as-opened : take-in s (stands-for store (ready s (count s f))) f ≡ take-in s opened f
-  unfolding stands-for take-in step-of reason-of lost-since
+  unfolding stands-for take-in step-of reason-of damage-of lost-since
   says-as-opened = rw (follows-before (count-width (s .link)) (count s f) (count-lt (s .link) (primary (s .link) f))) refl
 
   enters-as-opened : enter s (stands-for store (ready s (count s f))) f ≡ enter s opened f
