@@ -16,13 +16,13 @@ use Rattle.exports.specs.Extract.{extractor-of, extractor-numbers, enter
 use Rattle.exports.proofs.Leaving.{leaving, with-octets}
 
 module _ (settings numbers store frame answer : List ℕ) where
-  pub enter-short : short (length settings) (length numbers) (length answer) 6 ≡ true
+  pub enter-short : short (length settings) (length numbers) (length answer) 7 ≡ true
       → left 2 numbers [] answer ≡ enter-leaves settings numbers store frame answer
   unfolding enter-leaves
   enter-short t = rw t
 
   pub enter-done : (s : Settings) (x : Extractor) (e : Entering) {refusal : ℕ} {state said numbers′ answer′ : List ℕ}
-      → short (length settings) (length numbers) (length answer) 6 ≡ false → s ≡ settings-of settings → x ≡ extractor-of numbers
+      → short (length settings) (length numbers) (length answer) 7 ≡ false → s ≡ settings-of settings → x ≡ extractor-of numbers
       → enter-says e ≡ enter-answer s x store frame → state ≡ extractor-numbers (e .next)
       → said ≡ entered-numbers (e .entered) .refusal ∷ enter-numbers (entered-numbers (e .entered))
       → left refusal numbers′ [] answer′ ≡ leaving numbers state answer said
@@ -30,13 +30,13 @@ module _ (settings numbers store frame answer : List ℕ) where
   unfolding enter-leaves
   enter-done s x e t s-is x-is r state said k = k ∙ rw (t, ← s-is, ← x-is, ← r, said, state) refl
 
-  pub step-short : short (length settings) (length numbers) (length answer) 4 ≡ true
+  pub step-short : short (length settings) (length numbers) (length answer) 5 ≡ true
       → left 2 numbers store answer ≡ step-leaves settings numbers store frame answer
   unfolding step-leaves
   step-short t = rw t
 
   pub step-done : (s : Settings) (x : Extractor) (m : Move) {refusal : ℕ} {state said numbers′ store′ answer′ : List ℕ}
-      → short (length settings) (length numbers) (length answer) 4 ≡ false → s ≡ settings-of settings → x ≡ extractor-of numbers
+      → short (length settings) (length numbers) (length answer) 5 ≡ false → s ≡ settings-of settings → x ≡ extractor-of numbers
       → step-says m frame store′ ≡ step-answer s x store frame → state ≡ extractor-numbers (m .next)
       → ((f os : List ℕ) → said ≡ found-numbers f os (m .found) .refusal ∷ step-numbers (found-numbers f os (m .found)))
       → left refusal numbers′ [] answer′ ≡ leaving numbers state answer said

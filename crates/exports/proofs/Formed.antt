@@ -16,11 +16,11 @@ use Rattle.exports.specs.Left.{left}
 use Rattle.exports.specs.Packet.{formed-numbers, formed-leaves}
 
 -- the header reader refuses a limit out of range, and nothing else
-by-limit : (b : Bool) (os : List ℕ) (l : Look) → pick b (header.told os l) (bare 1 0) .refusal ≡ pick b 0 1
+by-limit : (b : Bool) (os : List ℕ) (l : Look) → pick b (header.told os l) (bare 1 0 0) .refusal ≡ pick b 0 1
 unfolding header.told
 by-limit false os l = refl
 by-limit true os more = refl
-by-limit true os damaged = refl
+by-limit true os (damaged d) = refl
 by-limit true os (whole n) = refl
 
 refusal-is : (limit : ℕ) (os : List ℕ) → reading limit os .refusal ≡ pick (limit-in-range limit) 0 1

@@ -18,7 +18,7 @@ use Rattle.exports.proofs.Leaving.{leaving, with-octets}
 -- a reply says which frame it goes with
 frame-same : (r : Reply) (frame : List ℕ) → answers r frame .frame ≡ frame
 unfolding answers
-frame-same (Reply.Refused n m) frame = refl
+frame-same (Reply.Refused n d m) frame = refl
 frame-same (Reply.Done full taken m) frame = refl
 
 module _ (call : Call) (room : ℕ) (said : Answer → List ℕ) (settings numbers frame array : List ℕ) where

@@ -146,12 +146,12 @@ module _ (entries table : List ℕ) where
 -- ---- routing
 
 module _ (limit : ℕ) (table packet destinations answer : List ℕ) where
-  pub route-short : or (ltb (length table) 65) (ltb (length answer) 2) ≡ true
+  pub route-short : or (ltb (length table) 65) (ltb (length answer) 3) ≡ true
       → left 2 [] destinations answer ≡ route-leaves limit table packet destinations answer
   unfolding route-leaves
   route-short t = rw t refl
 
-  pub route-done : (r : Routed) (out : List ℕ) {t : Table} → or (ltb (length table) 65) (ltb (length answer) 2) ≡ false → t ≡ table-of table
+  pub route-done : (r : Routed) (out : List ℕ) {t : Table} → or (ltb (length table) 65) (ltb (length answer) 3) ≡ false → t ≡ table-of table
       → routes r out ≡ routing limit t packet destinations
       → left (routes r out .refusal) [] out (told answer (route-numbers (routes r out))) ≡ route-leaves limit table packet destinations answer
   unfolding route-leaves

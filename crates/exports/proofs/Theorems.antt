@@ -118,24 +118,24 @@ module _ (array : List ℕ) where
     table = table-again;
   }
 
-  unit-named-by : (u : Unwrapped) (packet : List ℕ) → 4 ≤ length array
+  unit-named-by : (u : Unwrapped) (packet : List ℕ) → 5 ≤ length array
       → unit-named packet (unit-numbers (told array (unwrap-numbers (unwraps u))) packet) ≡ unit-part packet u
   unfolding unit-numbers unwrap-numbers unwraps unit-part part-of over
-  unit-named-by (Unwrapped.Refused n) packet h = rw (laid-there (0 ∷ 0 ∷ 0 ∷ 0 ∷ []) h) (none-by (leb 0 (length packet)) packet)
+  unit-named-by (Unwrapped.Refused n d) packet h = rw (laid-there (0 ∷ 0 ∷ 0 ∷ 0 ∷ d ∷ []) h) (none-by (leb 0 (length packet)) packet)
   unit-named-by (Unwrapped.Unit protocol extension start size) packet h =
-      rw (laid-there (protocol ∷ extension ∷ start ∷ size ∷ []) h)
+      rw (laid-there (protocol ∷ extension ∷ start ∷ size ∷ 0 ∷ []) h)
       (unit-by (leb (start + size) (length packet)) packet start size)
 
-  step-named-by : (found : Found) (frame store : List ℕ) → 4 ≤ length array
+  step-named-by : (found : Found) (frame store : List ℕ) → 5 ≤ length array
       → part-named frame store (show-numbers (told array (step-numbers (found-numbers frame store found))) frame store) ≡ shown frame store found
   unfolding show-numbers part-numbers step-numbers found-numbers shown part-of over
-  step-named-by (Found.Refused n) frame store h = rw (laid-there (0 ∷ 0 ∷ 0 ∷ 0 ∷ []) h) refl
+  step-named-by (Found.Refused n) frame store h = rw (laid-there (0 ∷ 0 ∷ 0 ∷ 0 ∷ 0 ∷ []) h) refl
   step-named-by (Found.InFrame start size idle) frame store h =
-      rw (laid-there (packet-or-idle idle ∷ 1 ∷ start ∷ size ∷ []) h) (frame-by (leb (start + size) (length frame)) frame store start size)
+      rw (laid-there (packet-or-idle idle ∷ 1 ∷ start ∷ size ∷ 0 ∷ []) h) (frame-by (leb (start + size) (length frame)) frame store start size)
   step-named-by (Found.InStore size idle) frame store h =
-      rw (laid-there (packet-or-idle idle ∷ 2 ∷ 0 ∷ size ∷ []) h) (store-by (leb (0 + size) (length store)) frame store 0 size)
-  step-named-by Found.Damaged frame store h = rw (laid-there (3 ∷ 0 ∷ 0 ∷ 0 ∷ []) h) refl
-  step-named-by Found.Spent frame store h = rw (laid-there (4 ∷ 0 ∷ 0 ∷ 0 ∷ []) h) refl
+      rw (laid-there (packet-or-idle idle ∷ 2 ∷ 0 ∷ size ∷ 0 ∷ []) h) (store-by (leb (0 + size) (length store)) frame store 0 size)
+  step-named-by (Found.Damaged d) frame store h = rw (laid-there (3 ∷ 0 ∷ 0 ∷ 0 ∷ d ∷ []) h) refl
+  step-named-by Found.Spent frame store h = rw (laid-there (4 ∷ 0 ∷ 0 ∷ 0 ∷ 0 ∷ []) h) refl
 
   pub parts-named : PartsNamed array
   parts-named = record { unit = unit-named-by; step = step-named-by }

@@ -34,7 +34,7 @@ in-reach limit p e t h =
 
 module _ (limit : ℕ) (unit output : List ℕ) where
   beyond : (p e : ℕ) → (7 < p) ⊎ (15 < e)
-      → wrapping limit p e unit output ≡ record { accepted = false; refusal = 1; total = 0; output = output }
+      → wrapping limit p e unit output ≡ record { accepted = false; refusal = 1; damage = 0; total = 0; output = output }
   unfolding wrapping wrap-rows first
   beyond p e h = rw (refuted _ (λ t. in-reach limit p e t h)) refl
 
@@ -53,14 +53,14 @@ module _ (limit : ℕ) (unit output : List ℕ) where
 -- an answer says which output it goes with
 output-same : (w : Wrapped) (out : List ℕ) → wraps w out .output ≡ out
 unfolding wraps
-output-same (Wrapped.Refused n) out = refl
+output-same (Wrapped.Refused n d) out = refl
 output-same (Wrapped.Total n) out = refl
 
 -- what a call leaves whose answer has room
-pub wrap-done : (limit p e : ℕ) (unit packet answer : List ℕ) (w : Wrapped) (out : List ℕ) → 1 ≤ length answer
+pub wrap-done : (limit p e : ℕ) (unit packet answer : List ℕ) (w : Wrapped) (out : List ℕ) → 2 ≤ length answer
     → wraps w out ≡ wrapping limit (min p 255) (min e 255) unit packet
     → left (wraps w out .refusal) [] out (told answer (wrap-numbers (wraps w out))) ≡ wrap-leaves limit p e unit packet answer
 unfolding wrap-leaves
 wrap-done limit p e unit packet answer w out h r =
-    rw (le-ltb (length answer) 1 h, ← wrapping-cut limit unit packet p e, ← r)
+    rw (le-ltb (length answer) 2 h, ← wrapping-cut limit unit packet p e, ← r)
     (ap (λ (os : List ℕ). left (wraps w out .refusal) [] os (told answer (wrap-numbers (wraps w out)))) (sym (output-same w out)))

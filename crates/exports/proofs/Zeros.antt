@@ -7,7 +7,7 @@ use Prim.Native.Nat.{ℕ, _+_, _-_}
 use lib.ListN.{length, take, drop}
 use lib.Dec.{leb, eqb}
 use Rattle.octets.specs.Basics.{pick, over, first}
-use Rattle.packets.specs.Packet.{Look, more, damaged, whole, look, limit-in-range, well-formed, is-idle}
+use Rattle.packets.specs.Packet.{Look, more, damaged, whole, look, carried, limit-in-range, well-formed, is-idle}
 use Rattle.packets.specs.Header.{bare, reading}
 use Rattle.packets.specs.Header as header
 use Rattle.frames.specs.Frame.{zone-of}
@@ -43,11 +43,11 @@ refused-told n ns e h = rw e h
 -- ---- packets
 
 header-by : (b : Bool) (os : List ℕ) (l : Look)
-    → told-apart (pick b (header.told os l) (bare 1 0) .refusal) (header-numbers (pick b (header.told os l) (bare 1 0))) ≡ true
+    → told-apart (pick b (header.told os l) (bare 1 0 0) .refusal) (header-numbers (pick b (header.told os l) (bare 1 0 0))) ≡ true
 unfolding told-apart header-numbers header.told all-zero
 header-by false os l = refl
 header-by true os more = refl
-header-by true os damaged = refl
+header-by true os (damaged d) = refl
 header-by true os (whole n) = refl
 
 header-told : (limit : ℕ) (os : List ℕ) → told-apart (reading limit os .refusal) (header-numbers (reading limit os)) ≡ true
@@ -72,7 +72,7 @@ full-told true = refl
 full-told false = refl
 
 flush-by : (b : Bool) (n : ℕ) → eqb n 0 ≡ b → (w : Put) (m : Mux) (frame : List ℕ)
-    → told-apart (pick b (doing w) (refusing n m frame) .refusal) (flush-numbers (pick b (doing w) (refusing n m frame))) ≡ true
+    → told-apart (pick b (doing w) (refusing n 0 m frame) .refusal) (flush-numbers (pick b (doing w) (refusing n 0 m frame))) ≡ true
 unfolding flush-numbers all-zero
 flush-by true n e w m frame = full-told (w .full)
 flush-by false n e w m frame = refused-told n (0 ∷ []) e refl
@@ -89,7 +89,7 @@ enter-by : (b : Bool) (n : ℕ) → eqb n 0 ≡ b → (s : Settings) (x : Extrac
     told-apart (a .answer .refusal) (enter-numbers (a .answer)) ≡ true
 unfolding enter-numbers told-apart all-zero
 enter-by true n e s x store f = refl
-enter-by false n e s x store f = refused-told n (0 ∷ 0 ∷ 0 ∷ 0 ∷ 0 ∷ 0 ∷ []) e refl
+enter-by false n e s x store f = refused-told n (0 ∷ 0 ∷ 0 ∷ 0 ∷ 0 ∷ 0 ∷ 0 ∷ []) e refl
 
 enter-told : (s : Settings) (x : Extractor) (store f : List ℕ)
     → told-apart (enter-answer s x store f .answer .refusal) (enter-numbers (enter-answer s x store f .answer)) ≡ true
@@ -114,7 +114,7 @@ module _ (s : Settings) (f : List ℕ) where
   look-told : (store : List ℕ) (last h at : ℕ) (rest : List ℕ) (l : Look) → Told (step-look s store last h at rest l)
   unfolding step-look handed-over found-numbers step-numbers told-apart
   look-told store last h at rest more = refl
-  look-told store last h at rest damaged = refl
+  look-told store last h at rest (damaged d) = refl
   look-told store last h at rest (whole l) =
       whole-by (leb l (h + length rest)) (eqb h 0) (is-idle (take l (take h store ++ rest))) (zone-at (s .link) + at) l
       (Walking last 0 (at + l)) (Walking last 0 (at + (l - h))) (InStep last (h + length rest))
@@ -131,7 +131,7 @@ module _ (s : Settings) (f : List ℕ) where
   step-by : (b : Bool) (n : ℕ) → eqb n 0 ≡ b → (store : List ℕ) (x : Extractor) → Told (pick b (step s f store x) (steps-to (Refused n) x store))
   unfolding found-numbers step-numbers all-zero
   step-by true n e store x = walked-told store x
-  step-by false n e store x = refused-told n (0 ∷ 0 ∷ 0 ∷ 0 ∷ []) e refl
+  step-by false n e store x = refused-told n (0 ∷ 0 ∷ 0 ∷ 0 ∷ 0 ∷ []) e refl
 
 step-told : (s : Settings) (x : Extractor) (store f : List ℕ)
     → told-apart (step-answer s x store f .answer .refusal) (step-numbers (step-answer s x store f .answer)) ≡ true
@@ -159,21 +159,23 @@ close-told s j store = close-by _ (first (close-rows s store j)) refl (judge-clo
 
 -- ---- the relay
 
-written-told : (ds output : List ℕ) → told-apart (written ds output .refusal) (route-numbers (written ds output)) ≡ true
+written-told : (ds output : List ℕ) → told-apart (written ds output .refusal) (take 2 (route-numbers (written ds output))) ≡ true
 unfolding written route-numbers told-apart
 written-told [] output = refl
 written-told (d ∷ ds) output = refl
 
-route-by : (b : Bool) (n : ℕ) → eqb n 0 ≡ b → (ds output : List ℕ)
-    → told-apart (pick b (written ds output) (refused n output) .refusal) (route-numbers (pick b (written ds output) (refused n output))) ≡ true
+route-by : (b : Bool) (n d : ℕ) → eqb n 0 ≡ b → (ds output : List ℕ)
+    → told-apart (pick b (written ds output) (refused n d output) .refusal) (take 2 (route-numbers (pick b (written ds output) (refused n d output)))) ≡ true
 unfolding route-numbers all-zero
-route-by true n e ds output = written-told ds output
-route-by false n e ds output = refused-told n (0 ∷ 0 ∷ []) e refl
+route-by true n d e ds output = written-told ds output
+route-by false n d e ds output = refused-told n (0 ∷ 0 ∷ []) e refl
 
 route-told : (limit : ℕ) (t : Table) (p output : List ℕ)
-    → told-apart (routing limit t p output .refusal) (route-numbers (routing limit t p output)) ≡ true
+    → told-apart (routing limit t p output .refusal) (take 2 (route-numbers (routing limit t p output))) ≡ true
 unfolding routing
-route-told limit t p output = route-by _ (first (route-rows limit t p (length output))) refl (path (entries-of t) p) output
+route-told limit t p output =
+    let n : ℕ = first (route-rows limit t p (length output)) in
+    route-by _ n (carried n limit p) refl (path (entries-of t) p) output
 
 pub zero-is-refused : ZeroIsRefused
 zero-is-refused =

@@ -46,27 +46,27 @@ extractor-of ns = extractor-with (getD ns 0 0) (count-of (getD ns 1 0)) (getD ns
 
 -- 1 for a frame that is entered, and what is said of it
 unfoldable pub enter-numbers : EnterNumbers → List ℕ
-enter-numbers a = a .outcome ∷ a .count ∷ a .replay ∷ a .lost ∷ a .dropped ∷ a .reason ∷ []
+enter-numbers a = a .outcome ∷ a .count ∷ a .replay ∷ a .lost ∷ a .dropped ∷ a .reason ∷ a .damage ∷ []
 
 unfoldable pub enter-leaves : List ℕ → List ℕ → List ℕ → List ℕ → List ℕ → Left
 enter-leaves settings numbers store frame answer =
     let a : EnterSaid = enter-answer (settings-of settings) (extractor-of numbers) store frame in
     let refusal : ℕ = a .answer .refusal in
-    pick (short (length settings) (length numbers) (length answer) 6)
+    pick (short (length settings) (length numbers) (length answer) 7)
     (left 2 numbers [] answer)
     (left refusal (kept refusal numbers (extractor-numbers (a .next))) [] (told answer (enter-numbers (a .answer))))
 
 -- ---- a step
 
--- 1 a packet, 2 an idle packet, 3 damaged, 4 spent; and where the packet lies
+-- 1 a packet, 2 an idle packet, 3 damaged, 4 spent; where the packet lies; and what is wrong with a damaged header
 unfoldable pub step-numbers : StepNumbers → List ℕ
-step-numbers a = a .outcome ∷ a .place ∷ a .start ∷ a .size ∷ []
+step-numbers a = a .outcome ∷ a .place ∷ a .start ∷ a .size ∷ a .damage ∷ []
 
 unfoldable pub step-leaves : List ℕ → List ℕ → List ℕ → List ℕ → List ℕ → Left
 step-leaves settings numbers store frame answer =
     let a : StepSaid = step-answer (settings-of settings) (extractor-of numbers) store frame in
     let refusal : ℕ = a .answer .refusal in
-    pick (short (length settings) (length numbers) (length answer) 4)
+    pick (short (length settings) (length numbers) (length answer) 5)
     (left 2 numbers store answer)
     (left refusal (kept refusal numbers (extractor-numbers (a .next))) (a .store) (told answer (step-numbers (a .answer))))
 
@@ -87,6 +87,6 @@ show-numbers step frame store =
 -- the answer of a step is lent with frame and store; nothing but a short array is refused
 unfoldable pub show-leaves : List ℕ → List ℕ → List ℕ → List ℕ → Left
 show-leaves step frame store answer =
-    pick (or (ltb (length step) 4) (ltb (length answer) 3))
+    pick (or (ltb (length step) 5) (ltb (length answer) 3))
     (left 2 [] [] answer)
     (left 0 [] [] (told answer (show-numbers step frame store)))

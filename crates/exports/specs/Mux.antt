@@ -22,9 +22,9 @@ mux-of ns = record { count = count-of (getD ns 0 0); filled = getD ns 1 0; first
 unfoldable pub begin-leaves : List ℕ → Left
 begin-leaves numbers = pick (ltb (length numbers) 4) (left 2 numbers [] []) (left 0 (told numbers (mux-numbers begun)) [] [])
 
--- what a put answers: whether the zone is full, and whether the packet is taken
+-- what a put answers: whether the zone is full, and whether the packet is taken; and what is wrong with the packet's header
 unfoldable pub put-numbers : Answer → List ℕ
-put-numbers a = bit (a .full) ∷ bit (a .taken) ∷ []
+put-numbers a = bit (a .full) ∷ bit (a .taken) ∷ a .damage ∷ []
 
 -- what a flush answers: 1 nothing was begun, 2 a frame was written
 unfoldable pub flush-numbers : Answer → List ℕ

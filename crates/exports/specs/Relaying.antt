@@ -57,14 +57,14 @@ load-leaves entries table =
 
 -- ---- routing
 
--- 1 no path, 2 a path, and how many destinations
+-- 1 no path, 2 a path, and how many destinations; and what is wrong with the packet's header
 unfoldable pub route-numbers : Routing → List ℕ
-route-numbers r = r .outcome ∷ r .count ∷ []
+route-numbers r = r .outcome ∷ r .count ∷ r .damage ∷ []
 
 -- a table or an answer that is short is refused; then what routing answers
 unfoldable pub route-leaves : ℕ → List ℕ → List ℕ → List ℕ → List ℕ → Left
 route-leaves limit table packet destinations answer =
     let r : Routing = routing limit (table-of table) packet destinations in
-    pick (or (ltb (length table) 65) (ltb (length answer) 2))
+    pick (or (ltb (length table) 65) (ltb (length answer) 3))
     (left 2 [] destinations answer)
     (left (r .refusal) [] (r .output) (told answer (route-numbers r)))

@@ -104,9 +104,9 @@ part-named frame store ns = take (getD ns 2 0) (drop (getD ns 1 0) (pick (eqb (g
 -- what is laid into an answer's array by unwrapping or by a step, lent to `itz_unit_part` or `itz_show`, names the very octets that
 -- `unit_part` and `show` hand back for that answer
 pub record PartsNamed (array : List ℕ) : Type 0 where
-  pub unit : (u : Unwrapped) (packet : List ℕ) → 4 ≤ length array
+  pub unit : (u : Unwrapped) (packet : List ℕ) → 5 ≤ length array
       → unit-named packet (unit-numbers (told array (unwrap-numbers (unwraps u))) packet) ≡ unit-part packet u
-  pub step : (found : Found) (frame store : List ℕ) → 4 ≤ length array
+  pub step : (found : Found) (frame store : List ℕ) → 5 ≤ length array
       → part-named frame store (show-numbers (told array (step-numbers (found-numbers frame store found))) frame store) ≡ shown frame store found
 
 -- all of them are 0
@@ -118,7 +118,7 @@ all-zero (n ∷ ns) = and (eqb n 0) (all-zero ns)
 unfoldable pub told-apart : ℕ → List ℕ → Bool
 told-apart refusal ns = pick (eqb refusal 0) (not (eqb (getD ns 0 0) 0)) (all-zero ns)
 
--- so it is of every answer that names an outcome
+-- so it is of every answer that names an outcome, but that a packet refused by 8 may have its damage behind the others
 pub record ZeroIsRefused : Type 0 where
   pub header : (limit : ℕ) (os : List ℕ) → told-apart (reading limit os .refusal) (header-numbers (reading limit os)) ≡ true
   pub formed : (limit : ℕ) (p : List ℕ) → told-apart (pick (limit-in-range limit) 0 1) (formed-numbers limit p) ≡ true
@@ -131,4 +131,4 @@ pub record ZeroIsRefused : Type 0 where
   pub close : (s : Settings) (j : Judge) (store : List ℕ)
       → told-apart (close-call s store j .refusal) (close-numbers (close-call s store j)) ≡ true
   pub route : (limit : ℕ) (t : Table) (p output : List ℕ)
-      → told-apart (routing limit t p output .refusal) (route-numbers (routing limit t p output)) ≡ true
+      → told-apart (routing limit t p output .refusal) (take 2 (route-numbers (routing limit t p output))) ≡ true

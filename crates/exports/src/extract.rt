@@ -20,9 +20,9 @@ use extractor::Found;
 use octets::within;
 
 // The entries of each answer.
-const ENTERED_ENTRIES: usize = 6;
+const ENTERED_ENTRIES: usize = 7;
 
-const STEP_ENTRIES: usize = 4;
+const STEP_ENTRIES: usize = 5;
 
 const SHOWN_ENTRIES: usize = 3;
 
@@ -103,11 +103,11 @@ fn extractor_numbers(x: Extractor) -> [u64; 4]
 }
 
 // An answer's refusal, and the numbers behind it.
-fn entered_said(entered: Entered) -> [u64; 7]
+fn entered_said(entered: Entered) -> [u64; 8]
     ensures { λ r. ⌜ r ≡ entered-numbers entered .refusal ∷ enter-numbers (entered-numbers entered) ⌝ }
 {
     match entered {
-        Entered::Refused { refusal } => [refusal as u64, 0, 0, 0, 0, 0, 0],
+        Entered::Refused { refusal } => [refusal as u64, 0, 0, 0, 0, 0, 0, 0],
         Entered::Taken { entry } => [
             0,
             ENTERED,
@@ -116,6 +116,7 @@ fn entered_said(entered: Entered) -> [u64; 7]
             entry.lost as u64,
             entry.dropped as u64,
             entry.reason as u64,
+            entry.damage as u64,
         ],
     }
 }
@@ -148,17 +149,24 @@ fn packet_number(idle: bool) -> u64
     if idle { IDLE } else { PACKET }
 }
 
-fn step_said(found: Found) -> [u64; 5]
+fn step_said(found: Found) -> [u64; 6]
     ensures { λ r. ⌜ ((frame store : List ℕ) → r ≡ found-numbers frame store found .refusal ∷ step-numbers (found-numbers frame store found)) ⌝ }
 {
     match found {
-        Found::Refused { refusal } => [refusal as u64, 0, 0, 0, 0],
+        Found::Refused { refusal } => [refusal as u64, 0, 0, 0, 0, 0],
         Found::InFrame { start, size, idle } => {
-            [0, packet_number(idle), IN_FRAME, start as u64, size as u64]
+            [
+                0,
+                packet_number(idle),
+                IN_FRAME,
+                start as u64,
+                size as u64,
+                0,
+            ]
         }
-        Found::InStore { size, idle } => [0, packet_number(idle), IN_STORE, 0, size as u64],
-        Found::Damaged => [0, DAMAGED, 0, 0, 0],
-        Found::Spent => [0, SPENT, 0, 0, 0],
+        Found::InStore { size, idle } => [0, packet_number(idle), IN_STORE, 0, size as u64, 0],
+        Found::Damaged { damage } => [0, DAMAGED, 0, 0, 0, damage as u64],
+        Found::Spent => [0, SPENT, 0, 0, 0, 0],
     }
 }
 

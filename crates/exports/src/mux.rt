@@ -20,7 +20,7 @@ use multiplexer::Mux;
 use multiplexer::Reply;
 
 // The entries of each answer.
-const PUT_ENTRIES: usize = 2;
+const PUT_ENTRIES: usize = 3;
 
 const FLUSH_ENTRIES: usize = 1;
 
@@ -74,12 +74,16 @@ fn next_mux(reply: Reply) -> [u64; 4]
 }
 
 // The refusal, and the numbers of a put's answer behind it.
-fn put_said(reply: Reply) -> [u64; 3]
+fn put_said(reply: Reply) -> [u64; 4]
     ensures { λ r. ⌜ ((frame : List ℕ) → r ≡ answers reply frame .refusal ∷ put-numbers (answers reply frame)) ⌝ }
 {
     match reply {
-        Reply::Refused { refusal, .. } => [refusal as u64, 0, 0],
-        Reply::Done { full, taken, .. } => [0, flag(full), flag(taken)],
+        Reply::Refused {
+            refusal,
+            damage,
+            ..
+        } => [refusal as u64, 0, 0, damage as u64],
+        Reply::Done { full, taken, .. } => [0, flag(full), flag(taken), 0],
     }
 }
 
@@ -108,7 +112,7 @@ pub extern "C" fn itz_mux_put(
     frame: &mut [u8],
     answer: &mut [u64],
 ) -> u64
-    ensures { λ r. ⌜ left r (now («record» .exit)) (now (frame .exit)) (now (answer .exit)) ≡ mux-leaves (to-put (now (packet .entry))) 2 put-numbers (now (settings .entry)) (now («record» .entry)) (now (frame .entry)) (now (answer .entry)) ⌝ }
+    ensures { λ r. ⌜ left r (now («record» .exit)) (now (frame .exit)) (now (answer .exit)) ≡ mux-leaves (to-put (now (packet .entry))) 3 put-numbers (now (settings .entry)) (now («record» .entry)) (now (frame .entry)) (now (answer .entry)) ⌝ }
 {
     if is_short(settings.len(), record.len(), answer.len(), PUT_ENTRIES) {
         return ROOM;

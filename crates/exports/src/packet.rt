@@ -23,13 +23,13 @@ use packets::Unwrapped;
 use wrapping::Wrapped;
 
 // The entries of each answer.
-const HEADER_ENTRIES: usize = 6;
+const HEADER_ENTRIES: usize = 7;
 
 const FORMED_ENTRIES: usize = 1;
 
-const WRAPPED_ENTRIES: usize = 1;
+const WRAPPED_ENTRIES: usize = 2;
 
-const UNWRAPPED_ENTRIES: usize = 4;
+const UNWRAPPED_ENTRIES: usize = 5;
 
 const UNIT_ENTRIES: usize = 2;
 
@@ -60,13 +60,13 @@ fn kind_number(kind: Kind) -> u64
 }
 
 // An answer's refusal, and the numbers behind it; so for the others below.
-fn header_said(header: Header) -> [u64; 7]
+fn header_said(header: Header) -> [u64; 8]
     ensures { λ r. ⌜ r ≡ answer header .refusal ∷ header-numbers (answer header) ⌝ }
 {
     match header {
-        Header::Refused { refusal } => [refusal as u64, 0, 0, 0, 0, 0, 0],
-        Header::More => [0, MORE, 0, 0, 0, 0, 0],
-        Header::Damaged => [0, DAMAGED, 0, 0, 0, 0, 0],
+        Header::Refused { refusal } => [refusal as u64, 0, 0, 0, 0, 0, 0, 0],
+        Header::More => [0, MORE, 0, 0, 0, 0, 0, 0],
+        Header::Damaged { damage } => [0, DAMAGED, 0, 0, 0, 0, 0, damage as u64],
         Header::Whole {
             kind,
             key,
@@ -81,6 +81,7 @@ fn header_said(header: Header) -> [u64; 7]
             key as u64,
             size as u64,
             total as u64,
+            0,
         ],
     }
 }
@@ -120,12 +121,12 @@ pub extern "C" fn itz_well_formed(limit: u64, packet: &[u8], answer: &mut [u64])
     refusal
 }
 
-fn wrapped_said(wrapped: Wrapped) -> [u64; 2]
+fn wrapped_said(wrapped: Wrapped) -> [u64; 3]
     ensures { λ r. ⌜ ((packet : List ℕ) → r ≡ wraps wrapped packet .refusal ∷ wrap-numbers (wraps wrapped packet)) ⌝ }
 {
     match wrapped {
-        Wrapped::Refused { refusal } => [refusal as u64, 0],
-        Wrapped::Total { total } => [0, total as u64],
+        Wrapped::Refused { refusal, damage } => [refusal as u64, 0, damage as u64],
+        Wrapped::Total { total } => [0, total as u64, 0],
     }
 }
 
@@ -149,11 +150,11 @@ pub extern "C" fn itz_wrap(
     tell(answer, &said)
 }
 
-fn unwrapped_said(unwrapped: Unwrapped) -> [u64; 5]
+fn unwrapped_said(unwrapped: Unwrapped) -> [u64; 6]
     ensures { λ r. ⌜ r ≡ unwraps unwrapped .refusal ∷ unwrap-numbers (unwraps unwrapped) ⌝ }
 {
     match unwrapped {
-        Unwrapped::Refused { refusal } => [refusal as u64, 0, 0, 0, 0],
+        Unwrapped::Refused { refusal, damage } => [refusal as u64, 0, 0, 0, 0, damage as u64],
         Unwrapped::Unit {
             protocol,
             extension,
@@ -165,6 +166,7 @@ fn unwrapped_said(unwrapped: Unwrapped) -> [u64; 5]
             extension as u64,
             start as u64,
             size as u64,
+            0,
         ],
     }
 }

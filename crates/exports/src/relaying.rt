@@ -19,7 +19,7 @@ use relay::Table;
 const TABLE_NUMBERS: usize = 2 * MOST_ENTRIES + 1;
 
 // The entries of the answer.
-const ROUTED_ENTRIES: usize = 2;
+const ROUTED_ENTRIES: usize = 3;
 
 const NO_PATH: u64 = 1;
 
@@ -132,13 +132,13 @@ pub extern "C" fn itz_relay_load(entries: &[u64], table: &mut [u64]) -> u64
 }
 
 // An answer's refusal, and the numbers behind it.
-fn routed_said(routed: Routed) -> [u64; 3]
+fn routed_said(routed: Routed) -> [u64; 4]
     ensures { λ r. ⌜ ((octets : List ℕ) → r ≡ routes routed octets .refusal ∷ route-numbers (routes routed octets)) ⌝ }
 {
     match routed {
-        Routed::Refused { refusal } => [refusal as u64, 0, 0],
-        Routed::NoPath => [0, NO_PATH, 0],
-        Routed::Path { count } => [0, PATH, count as u64],
+        Routed::Refused { refusal, damage } => [refusal as u64, 0, 0, damage as u64],
+        Routed::NoPath => [0, NO_PATH, 0, 0],
+        Routed::Path { count } => [0, PATH, count as u64, 0],
     }
 }
 

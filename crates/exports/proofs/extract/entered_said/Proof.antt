@@ -13,12 +13,13 @@ returns c = rw (c .before .entered .given .1) refl
 
 returns-2 : tie.Need-returns-2
 unfolding enter-numbers entered-numbers
-returns-2 c = rw (c .before .before .before .before .before .entered2 .given .1) refl
+returns-2 c = rw (c .before .before .before .before .before .before .entered2 .given .1) refl
 
 pub entered-said-spec : {M : Type 1} → statement M
 entered-said-spec =
     tie.close
     (tie.spec
+    (λ c. search needs)
     (λ c. search needs)
     (λ c. search needs)
     (λ c. search needs)

@@ -21,11 +21,11 @@ returns-3 c = λ frame store. rw (c .before .before .found3 .given .1, c .packet
 
 returns-4 : tie.Need-returns-4
 unfolding step-numbers found-numbers
-returns-4 c = λ frame store. rw (c .enum-told .given .1) refl
+returns-4 c = λ frame store. rw (c .before .found4 .given .1) refl
 
 returns-5 : tie.Need-returns-5
 unfolding step-numbers found-numbers
-returns-5 c = λ frame store. rw (c .enum-told2 .given .1) refl
+returns-5 c = λ frame store. rw (c .enum-told .given .1) refl
 
 pub step-said-spec : {M : Type 1} → statement M
 step-said-spec =
@@ -37,6 +37,7 @@ step-said-spec =
     (λ c κs. search needs)
     (λ c. search needs)
     (λ c κs. search needs)
+    (λ c. search needs)
     (λ c. search needs)
     (λ c. search needs)
     returns

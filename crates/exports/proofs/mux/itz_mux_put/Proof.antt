@@ -11,7 +11,7 @@ use Rattle.exports.proofs.mux.itz_mux_put.Tie as tie
 returns : tie.Need-returns
 returns c =
     let a = c .before .before .before .before .before .before .before .args in
-    mux-short (to-put (a .packet .now)) 2 put-numbers (a .settings .now) (a .«record» .now) (a .frame .now) (a .answer .now)
+    mux-short (to-put (a .packet .now)) 3 put-numbers (a .settings .now) (a .«record» .now) (a .frame .now) (a .answer .now)
     (sym (c .before .is-short .ensures) ∙ c .if1 .taken)
 
 returns-2 : tie.Need-returns-2
@@ -25,7 +25,7 @@ returns-2 c =
     let at-if1 = at-settings .before in
     let at-short = at-if1 .before in
     let a = at-short .before .before .before .before .before .before .args in
-    mux-done (to-put (a .packet .now)) 2 put-numbers (a .settings .now) (a .«record» .now) (a .frame .now) (a .answer .now)
+    mux-done (to-put (a .packet .now)) 3 put-numbers (a .settings .now) (a .«record» .now) (a .frame .now) (a .answer .now)
     (at-settings .settings-of .result) (at-record .mux-of .result) (at-call .put .result)
     (sym (at-short .is-short .ensures) ∙ at-if1 .if1 .left) (at-settings .settings-of .ensures) (at-record .mux-of .ensures) (at-call .put .ensures)
     (at-next .next-mux .ensures) (at-said .put-said .ensures) (at-leave .leave .ensures)

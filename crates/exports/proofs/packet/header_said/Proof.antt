@@ -17,16 +17,17 @@ returns-2 c = rw (c .enum-told .given .1) refl
 
 returns-3 : tie.Need-returns-3
 unfolding header-numbers answer
-returns-3 c = rw (c .enum-told2 .given .1) refl
+returns-3 c = rw (c .before .header2 .given .1) refl
 
 returns-4 : tie.Need-returns-4
 unfolding header-numbers answer
-returns-4 c = rw (c .before .before .before .header2 .given .1, c .before .kind-number .ensures, c .flag .ensures) refl
+returns-4 c = rw (c .before .before .before .header3 .given .1, c .before .kind-number .ensures, c .flag .ensures) refl
 
 pub header-said-spec : {M : Type 1} → statement M
 header-said-spec =
     tie.close
     (tie.spec
+    (λ c. search needs)
     (λ c. search needs)
     (λ c. search needs)
     (λ c. search needs)

@@ -16,4 +16,4 @@ unfolding wrap-numbers wraps
 returns-2 c = λ packet. rw (c .before .wrapped2 .given .1) refl
 
 pub wrapped-said-spec : {M : Type 1} → statement M
-wrapped-said-spec = tie.close (tie.spec (λ c. search needs) (λ c. search needs) (λ c. search needs) returns returns-2)
+wrapped-said-spec = tie.close (tie.spec (λ c. search needs) (λ c. search needs) (λ c. search needs) (λ c. search needs) returns returns-2)

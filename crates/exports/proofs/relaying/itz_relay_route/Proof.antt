@@ -18,7 +18,7 @@ returns c =
 table-of-requires : tie.Need-table-of-requires
 table-of-requires c κs =
     let a = c .before .before .before .before .before .args in
-    let h = ltb-false (length (a .table .now)) 65 (or-false (ltb (length (a .table .now)) 65) (ltb (length (a .answer .now)) 2) (c .if1 .left) .0) in
+    let h = ltb-false (length (a .table .now)) 65 (or-false (ltb (length (a .table .now)) 65) (ltb (length (a .answer .now)) 3) (c .if1 .left) .0) in
     omega arith
 
 returns-2 : tie.Need-returns-2
