@@ -63,7 +63,7 @@ packet-line (Whole Space key false size total) = two (ascii "space ") key (ascii
 packet-line (Whole Encapsulation key false size total) = two (ascii "encap ") key (ascii " ") total
 packet-line (header.Refused refusal) = []
 packet-line header.More = []
-packet-line header.Damaged = []
+packet-line (header.Damaged damage) = []
 
 unfoldable pub verdict-line : Closed → List ℕ
 verdict-line Pass = ascii "pass\n"

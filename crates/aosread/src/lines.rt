@@ -111,15 +111,15 @@ pub(crate) fn packet(out: &mut [u8], at: usize, h: Header) -> usize
         }
         Header::Refused { .. } => at,
         Header::More => at,
-        Header::Damaged => at,
+        Header::Damaged { .. } => at,
     }
 }
 
-pub(crate) fn damaged(out: &mut [u8], at: usize) -> usize
+pub(crate) fn damaged(out: &mut [u8], at: usize, damage: u8) -> usize
     requires { ⌜ Room at (now out) ⌝ }
-    ensures { λ r. ⌜ Puts (now (out .entry)) at (ascii "damaged\n") (now (out .exit)) r ⌝ }
+    ensures { λ r. ⌜ Puts (now (out .entry)) at (last-text (ascii "damaged ") damage) (now (out .exit)) r ⌝ }
 {
-    put(out, at, b"damaged\n")
+    last(out, at, b"damaged ", damage as u64)
 }
 
 pub(crate) fn verdict(out: &mut [u8], at: usize, c: Closed) -> usize

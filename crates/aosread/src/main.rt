@@ -69,7 +69,7 @@ fn is_last(found: Found) -> bool
         Found::Refused { .. } => true,
         Found::InFrame { .. } => false,
         Found::InStore { .. } => false,
-        Found::Damaged => false,
+        Found::Damaged { .. } => false,
         Found::Spent => true,
     }
 }
@@ -86,8 +86,8 @@ fn tell<'a>(
     requires { ⌜ Room waiting (now out) ⌝ }
     ensures { λ r. ⌜ Room r (now (out .exit)) ⌝ }
 {
-    if let Found::Damaged = found {
-        let line = lines::damaged(out, waiting);
+    if let Found::Damaged { damage } = found {
+        let line = lines::damaged(out, waiting, damage);
         return make_room(out, line);
     }
     let header = packets::read_header(s.limit, extractor::show(frame, store, found));
