@@ -11,7 +11,7 @@ use wrapping::Wrapped;
 // What wrapping n octets answered: the header and the last octet of what it wrote.
 fn wrapped(answer: Wrapped, n: usize, out: &[u8]) {
     match answer {
-        Wrapped::Refused { refusal } => say::refused(refusal),
+        Wrapped::Refused { refusal, damage } => say::refused_for(refusal, damage),
         Wrapped::Total { total } => {
             say::phrase(say::WRAPPED);
             say::octets(octets::part(out, 0, octets::rest(total, n)));
@@ -55,7 +55,7 @@ fn unwrap(limit: usize, p: &[u8]) {
     say::phrase(say::ANSWER);
     let answer = packets::unwrap(limit, p);
     match answer {
-        Unwrapped::Refused { refusal } => say::refused(refusal),
+        Unwrapped::Refused { refusal, damage } => say::refused_for(refusal, damage),
         Unwrapped::Unit {
             protocol,
             extension,

@@ -52,7 +52,7 @@ pub(crate) fn load(e: Ends, line: &[u8], list: &[u8]) -> Ends {
 // What routing a packet answered.
 fn routed(answer: Routed) {
     match answer {
-        Routed::Refused { refusal } => say::refused(refusal),
+        Routed::Refused { refusal, damage } => say::refused_for(refusal, damage),
         Routed::NoPath => say::phrase(say::NO_PATH),
         Routed::Path { count } => say::number(say::PATH, count as u64),
     }

@@ -16,6 +16,7 @@ use frames::ZONE_AT;
 use frames::bits::MOST_WIDTH;
 use multiplexer::Mux;
 use multiplexer::Reply;
+use packets::damage;
 use relay::Table;
 
 // The octets of the longest frame: a zone of bits with both headers before it, and a trailer.
@@ -116,6 +117,9 @@ fn entered(e: Entry) {
         e.dropped as u64,
         e.reason as u64,
     );
+    if e.damage != damage::NONE {
+        say::number(say::DAMAGE, e.damage as u64);
+    }
 }
 
 // A packet that was handed over: what its header says and, unless it is idle, its octets.
@@ -134,9 +138,9 @@ fn found<'a>(limit: usize, frame: &'a [u8], store: &'a [u8], f: Found) -> bool {
             say::refused(refusal);
             false
         }
-        Found::Damaged => {
+        Found::Damaged { damage } => {
             say::phrase(say::NEXT);
-            say::phrase(say::DAMAGED);
+            say::damaged(damage);
             true
         }
         Found::Spent => false,
@@ -219,9 +223,13 @@ fn full(e: Ends) -> Ends {
 // What the multiplexer answered: a refusal is said, and a frame that is full is said and heard.
 fn answered(e: Ends, r: Reply) -> Ends {
     match r {
-        Reply::Refused { refusal, .. } => {
+        Reply::Refused {
+            refusal,
+            damage,
+            ..
+        } => {
             say::label(e.label);
-            say::refused(refusal);
+            say::refused_for(refusal, damage);
             say::end();
             e
         }
@@ -283,7 +291,11 @@ pub(crate) fn transmit(c: Call, e: Ends, p: &[u8]) -> Ends {
 // What the multiplexer answered to one call.
 fn replied(r: Reply) {
     match r {
-        Reply::Refused { refusal, .. } => say::refused(refusal),
+        Reply::Refused {
+            refusal,
+            damage,
+            ..
+        } => say::refused_for(refusal, damage),
         Reply::Done { full, taken, .. } => {
             say::numbers(say::DONE, full as u64, taken as u64, 0, 0);
         }

@@ -2,6 +2,7 @@
 use crate::hex::Given;
 use crate::text;
 use libc::STDOUT_FILENO;
+use octets::refusals;
 use packets::Header;
 use packets::Kind;
 
@@ -10,7 +11,7 @@ const REFUSED: usize = 0;
 
 const MORE: usize = 1;
 
-pub(crate) const DAMAGED: usize = 2;
+const DAMAGED: usize = 2;
 
 const IDLE: usize = 3;
 
@@ -62,6 +63,8 @@ pub(crate) const NO_PATH: usize = 26;
 
 pub(crate) const PATH: usize = 27;
 
+pub(crate) const DAMAGE: usize = 28;
+
 pub(crate) fn text(t: &[u8]) {
     io::write_all(STDOUT_FILENO, t);
 }
@@ -107,7 +110,7 @@ fn form(form: &[u8], a: u64, b: u64, c: u64, d: u64) {
 pub(crate) fn numbers(phrase: usize, a: u64, b: u64, c: u64, d: u64) {
     let phrases = b" refused %
  more
- damaged
+ damaged %
  idle %
  space % %
  encap % %
@@ -133,6 +136,7 @@ line % is in none of the forms:
  entries %
  no path
  path %
+ damage %
 ";
     form(text::line(phrases, phrase), a, b, c, d);
 }
@@ -147,6 +151,18 @@ pub(crate) fn phrase(phrase: usize) {
 
 pub(crate) fn refused(refusal: u8) {
     number(REFUSED, refusal as u64);
+}
+
+// A refusal of a call that is lent a packet, or makes one: what is wrong with the header, with the refusal that tells it.
+pub(crate) fn refused_for(refusal: u8, damage: u8) {
+    refused(refusal);
+    if refusal == refusals::PACKET {
+        number(DAMAGE, damage as u64);
+    }
+}
+
+pub(crate) fn damaged(damage: u8) {
+    number(DAMAGED, damage as u64);
 }
 
 // One octet, after a space.
@@ -197,8 +213,8 @@ pub(crate) fn header(h: Header) -> bool {
             phrase(MORE);
             false
         }
-        Header::Damaged => {
-            phrase(DAMAGED);
+        Header::Damaged { damage } => {
+            damaged(damage);
             false
         }
         Header::Whole {
