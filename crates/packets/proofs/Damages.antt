@@ -11,8 +11,8 @@ use borrow.Author.Tests.{le-leb, lt-leb, lt-ltb, le-ltb, ltb-true, leb-true, eqb
 use Rattle.octets.specs.Basics.{and, number, part}
 use Rattle.octets.proofs.Choices.{split, apart, and-true, and-false}
 use Rattle.octets.proofs.Tests.{test}
-use Rattle.packets.specs.Packet.{Look, more, damaged, whole, limit-in-range, sized, counted, space, header-length, encapsulation, packet-version, protocol-of, length-of-length, look, size-of}
-use Rattle.packets.specs.Damage.{wrong-version, not-idle, states-length, below-its-header, over-limit, applies, Named, DamageNamed}
+use Rattle.packets.specs.Packet.{Look, more, damaged, whole, damage-in, limit-in-range, sized, counted, space, header-length, encapsulation, packet-version, protocol-of, length-of-length, look, size-of}
+use Rattle.packets.specs.Damage.{wrong-version, not-idle, states-length, below-its-header, over-limit, applies, Named, DamageNamed, Tells}
 use Rattle.packets.proofs.Sizes.{header-most}
 
 -- whether what is seen is damage of this number
@@ -150,3 +150,16 @@ damage-named limit os ranged = record {
 
     alike : {l : Look} {d e : ℕ} → l ≡ damaged d → l ≡ damaged e → d ≡ e
     alike p q = cc
+
+-- what the reader sees says what is wrong
+pub look-tells : (limit : ℕ) (os : List ℕ) → limit-in-range limit ≡ true → Tells limit os (damage-in (look limit os))
+unfolding damage-in
+look-tells limit os ranged = record { named = λ d t. ap damage-in (n .exactly d .1 t); none = λ none. go (look limit os) refl none }
+  where
+    n : Named limit os
+    n = damage-named limit os ranged
+
+    go : (l : Look) → look limit os ≡ l → ((d : ℕ) → applies limit os d ≡ false) → damage-in l ≡ 0
+    go more e none = refl
+    go (damaged d) e none = apart (cc (n .exactly d .0 e, none d))
+    go (whole total) e none = refl

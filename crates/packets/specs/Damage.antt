@@ -62,3 +62,8 @@ pub record Named (limit : ℕ) (os : List ℕ) : Type 0 where
 -- so it is at every limit that can be set
 abbrev pub DamageNamed : Type 0
 DamageNamed = (limit : ℕ) (os : List ℕ) → limit-in-range limit ≡ true → Named limit os
+
+-- a number says what is wrong with a header: it is that of the damage that applies, and 0 where none does
+pub record Tells (limit : ℕ) (os : List ℕ) (n : ℕ) : Type 0 where
+  pub named : (d : ℕ) → applies limit os d ≡ true → n ≡ d
+  pub none : ((d : ℕ) → applies limit os d ≡ false) → n ≡ 0
