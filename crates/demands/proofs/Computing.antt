@@ -2,7 +2,7 @@
 -- Assumes nothing.
 use Rattle.octets.specs.Basics.{number-from, number, octets, part, over, first, number-at, part-of, laid, laid-part}
 use Rattle.words.specs.Fields.{field, join, placed}
-use Rattle.packets.specs.Packet.{limit-in-range, sized, counted, space, header-length, encapsulation, look, states, well-formed, is-idle, key-of, size-of}
+use Rattle.packets.specs.Packet.{limit-in-range, sized, counted, space, header-length, encapsulation, look, damage-in, carried, states, well-formed, is-idle, key-of, size-of}
 use Rattle.packets.specs.Header.{told, reading, version-of, answer}
 use Rattle.wrapping.specs.Front.{first-octet, second-octet, front}
 use Rattle.wrapping.specs.Idle.{idle-header, idle-packet, idle-packet-rows}
@@ -21,7 +21,7 @@ use Rattle.frames.specs.Frame.{in-range, frame-length, zone-of, unused, frame-r
 use Rattle.frames.specs.BitFrame.{bits-in-range, bit-frame-length, bit-zone-of, bit-unused, bit-frame-rows, bit-heading-rows, bit-heading, bit-head, bit-head-rows}
 use Rattle.multiplexer.specs.Multiplex.{mux-reachable, put-rows, filled-frame, filled-mux, start-now, fits-now, put, flush-rows, flush, idle-rows, idle-frame}
 use Rattle.multiplexer.specs.Calls as multiplexer
-use Rattle.extractor.specs.Extract.{agreed-look, agreed, reason-by, reason-in, lost-since, reason-of, step-of, walked, walk, walk-turns, walk-look, take-in}
+use Rattle.extractor.specs.Extract.{agreed-look, agreed, reason-by, reason-in, lost-since, reason-of, damage-of, step-of, walked, walk, walk-turns, walk-look, take-in}
 use Rattle.extractor.specs.Records.{unfinished, holds-well, reachable, is-entered, stands-for, enter-rows, set-off, enter, step-rows, handed-over, step-look, step, step-call, shown}
 use Rattle.extractor.specs.Answers.{entered-numbers, enter-answer, found-numbers, step-answer}
 use Rattle.extractor.specs.Calls.{event-at, steps, spend-answer}
@@ -45,7 +45,7 @@ use Rattle.exports.specs.Relaying as relaying
 use Rattle.exports.specs.Bits.{bits-short, bit-settings-of, writer-of, write-leaves, reader-numbers, reader-with, read-numbers, read-leaves}
 
 unfoldable pub packets : Unit {0}
-unfolding number-from number octets field join placed part over first number-at part-of laid laid-part limit-in-range sized counted space header-length encapsulation look states well-formed is-idle key-of size-of told reading version-of answer first-octet second-octet front idle-header idle-packet idle-packet-rows length-of-length-for wrapped-total wrapped wrap-in-range wrap-rows wrapping wraps extension-of reserved-of unwrap-rows unwrapping unwraps unit-part space-fields space-word space-in-range space-read-rows space-reading space-reads space-rows space-writing
+unfolding number-from number octets field join placed part over first number-at part-of laid laid-part limit-in-range sized counted space header-length encapsulation look damage-in carried states well-formed is-idle key-of size-of told reading version-of answer first-octet second-octet front idle-header idle-packet idle-packet-rows length-of-length-for wrapped-total wrapped wrap-in-range wrap-rows wrapping wraps extension-of reserved-of unwrap-rows unwrapping unwraps unit-part space-fields space-word space-in-range space-read-rows space-reading space-reads space-rows space-writing
 packets = tt
 
 unfoldable pub relays : Unit {0}
@@ -65,7 +65,7 @@ unfolding frames mux-reachable put-rows filled-frame filled-mux start-now fits-n
 multiplexing = tt
 
 unfoldable pub extracting : Unit {0}
-unfolding frames agreed-look agreed reason-by reason-in lost-since reason-of step-of walked walk walk-turns walk-look take-in unfinished holds-well reachable is-entered stands-for enter-rows set-off enter step-rows handed-over step-look step step-call shown entered-numbers enter-answer found-numbers step-answer event-at steps spend-answer
+unfolding frames agreed-look agreed reason-by reason-in lost-since reason-of damage-of step-of walked walk walk-turns walk-look take-in unfinished holds-well reachable is-entered stands-for enter-rows set-off enter step-rows handed-over step-look step step-call shown entered-numbers enter-answer found-numbers step-answer event-at steps spend-answer
 extracting = tt
 
 unfoldable pub judging : Unit {0}

@@ -10,4 +10,5 @@ pub mod Passed
 pub mod Promised
 pub mod RoundTrips
 pub mod SpaceAndPackets
+pub mod Damage
 pub mod calls

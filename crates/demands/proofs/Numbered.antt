@@ -2,6 +2,7 @@
 -- Assumes nothing.
 use mathlib.Core.Path.{refl}
 use Rattle.packets.specs.Header.{seen}
+use Rattle.packets.specs.Damage.{wrong-version, not-idle, states-length, below-its-header, over-limit}
 use Rattle.space.specs.Space.{space-writes}
 use Rattle.trailer.proofs.Vectors.{vectors}
 use Rattle.demands.specs.Numbers.{Numbers}
@@ -10,6 +11,7 @@ use Rattle.demands.specs.Numbers.Octets as octets
 use Rattle.demands.specs.Numbers.FrameFields as frames
 use Rattle.demands.specs.Numbers.PacketFields.{SpacePackets, EncapsulationPackets, Parts, IdlePackets}
 use Rattle.demands.specs.Numbers.SpaceFields as space
+use Rattle.demands.specs.Numbers.Damages as damages
 use Rattle.demands.specs.Numbers.Wrapping as wrapping
 use Rattle.demands.specs.Numbers.Relaying as relaying
 use Rattle.demands.specs.Numbers.Multiplexing as multiplexing
@@ -456,6 +458,60 @@ trailed = record {
   leading = refl;
 }
 
+damaged-headers : damages.Headers
+unfolding computing.packets
+damaged-headers = record {
+  firsts = refl;
+  cut = refl;
+  below = refl;
+  below-four = refl;
+  below-eight = refl;
+  spaces = refl;
+  over-two = refl;
+  over-four = refl;
+  over-eight = refl;
+  over-space = refl;
+  least = refl;
+  unfinished = refl;
+  behind = refl;
+}
+
+damage-tests : damages.Tests
+unfolding computing.packets wrong-version not-idle states-length below-its-header over-limit
+damage-tests = record { version = refl; one-octet = refl; each = refl; longer = refl; sound = refl }
+
+damage-carried : damages.Refusals
+unfolding computing.multiplexing computing.relays
+damage-carried = record {
+  put = refl;
+  put-eight = refl;
+  unwrapped = refl;
+  unwrapped-eight = refl;
+  routed = refl;
+  routed-eight = refl;
+  space-packets = refl;
+  line-2831 = refl;
+  wrapped = refl;
+  others = refl;
+  sound = refl;
+}
+
+damaged-walks : damages.Walks
+unfolding computing.extracting
+damaged-walks = record {
+  in-zone = refl;
+  trailed = refl;
+  at-the-end = refl;
+  last-octet = refl;
+  held = refl;
+  cut-eight = refl;
+  cut-eight-over = refl;
+  cut-four = refl;
+  cut-space = refl;
+  other-reasons = refl;
+  tight = refl;
+}
+
 pub numbers : Numbers
 numbers = record {
   ranges = ranges;
@@ -469,6 +525,8 @@ numbers = record {
     space-packets = space-packets;
     encapsulation-packets = encapsulation-packets;
     parts = parts;
+    damaged = damaged-headers;
+    damage-tests = damage-tests;
     space-headers = space-headers;
   };
   refusals = record {
@@ -479,6 +537,7 @@ numbers = record {
     step = step;
     judge = judge;
     wrap = wrap;
+    damage = damage-carried;
     write-idle = write-idle;
     bitstream = bitstream;
     trailers = trailers-refused;
@@ -487,6 +546,7 @@ numbers = record {
     multiplexed = multiplexed;
     entered = entered;
     stepped = stepped;
+    damaged = damaged-walks;
     spent = spent;
     judged = judged;
     closed = closed;

@@ -15,11 +15,14 @@ packets : arrays.Packets
 unfolding computing.arrays
 packets = record {
   headers = refl;
+  damaged = refl;
   refused = refl;
   short = refl;
   formed = refl;
   wrapped = refl;
+  not-wrapped = refl;
   unwrapped = refl;
+  not-unwrapped = refl;
   unit = refl;
   no-unit = refl;
   space-read = refl;
@@ -32,6 +35,7 @@ multiplexer = record {
   begun = refl;
   taken = refl;
   full = refl;
+  damaged = refl;
   nothing = refl;
   flushed = refl;
   refused = refl;
@@ -47,6 +51,7 @@ extractor = record {
   in-frame = refl;
   spent = refl;
   damaged = refl;
+  dropped = refl;
   shown = refl;
 }
 
@@ -79,6 +84,7 @@ relay = record {
   no-path = refl;
   no-room = refl;
   refused = refl;
+  damaged = refl;
   unmade = refl;
 }
 

@@ -9,7 +9,7 @@ use lib.Dec.{eqb}
 use borrow.Author.Tests.{eq-eqb}
 use Rattle.octets.specs.Basics.{pick, Row, row, first}
 use Rattle.octets.proofs.Choices.{refusal-kept}
-use Rattle.packets.specs.Packet.{limit-in-range, look}
+use Rattle.packets.specs.Packet.{carried, limit-in-range, look}
 use Rattle.packets.specs.Header.{bare, told}
 use Rattle.wrapping.specs.Idle.{idle-packet-rows}
 use Rattle.wrapping.specs.Wrap.{wrapped-total, wrap-rows, Wrapping, wrapping}
@@ -27,7 +27,7 @@ use Rattle.frames.specs.BitFrame.{bit-count, bit-replay, bit-pointer, bit-frame
 use Rattle.frames.specs.declared.Heading.{Heading}
 use Rattle.frames.specs.declared.Settings.{Settings}
 use Rattle.multiplexer.specs.Multiplex.{put-rows, flush-rows, idle-rows}
-use Rattle.multiplexer.specs.Calls.{Call, to-put, to-flush, to-idle, call-rows, call, refusing, doing, answer}
+use Rattle.multiplexer.specs.Calls.{Call, to-put, to-flush, to-idle, call-rows, call, call-damage, refusing, doing, answer}
 use Rattle.multiplexer.specs.declared.Mux.{Mux}
 use Rattle.extractor.specs.Records.{checked, enter-rows, steps-to, step-rows, step, step-call}
 use Rattle.extractor.specs.Answers.{refused-entry, entered-as, enter-answer, refused-step, said, found-numbers, step-answer}
@@ -86,7 +86,7 @@ among number rows done refused rule none own =
 called : (s : Settings) (m : Mux) (c : Call) (frame : List ℕ) → Among (answer s m c frame .refusal) (0 ∷ numbers (call-rows s m c (length frame)))
 unfolding answer
 called s m c frame =
-    among (λ a. a .refusal) (call-rows s m c (length frame)) (doing (call s m c frame)) (λ n. refusing n m frame) refl refl (λ n. refl)
+    among (λ a. a .refusal) (call-rows s m c (length frame)) (doing (call s m c frame)) (λ n. refusing n (call-damage s c n) m frame) refl refl (λ n. refl)
 
 headed : (rows : List Row) (c r p : ℕ) → Among (heading-of (first rows) c r p .refusal) (0 ∷ numbers rows)
 unfolding heading-of
@@ -119,18 +119,18 @@ only-these = record {
       (closes-unrefused (judge-close j)) (λ n. refl);
   wrap = λ limit protocol extension unit output.
       among (λ (a : Wrapping). a .refusal) (wrap-rows limit protocol extension (length unit) (wrapped-total protocol (length unit)) (length output))
-      _ (λ n. record { accepted = false; refusal = n; total = 0; output = output }) refl refl (λ n. refl);
+      _ (λ n. record { accepted = false; refusal = n; damage = 0; total = 0; output = output }) refl refl (λ n. refl);
   unwrap = λ limit p.
       among (λ (a : Unwrapping). a .refusal) (unwrap-rows limit p) _
-      (λ n. record { accepted = false; refusal = n; protocol = 0; extension = 0; start = 0; size = 0 }) refl refl (λ n. refl);
+      (λ n. record { accepted = false; refusal = n; damage = carried n limit p; protocol = 0; extension = 0; start = 0; size = 0 }) refl refl (λ n. refl);
   load = λ old count lent.
       among (λ (a : Loaded). a .refusal) (load-rows count (take count lent)) (record { refusal = 0; table = table-of (take count lent) })
       (λ n. record { refusal = n; table = old }) (loading-by-row old count lent) refl (λ n. refl);
   route = λ limit t p output.
-      among (λ (a : Routing). a .refusal) (route-rows limit t p (length output)) (relay.written (path (entries-of t) p) output) (λ n. relay.refused n output)
+      among (λ (a : Routing). a .refusal) (route-rows limit t p (length output)) (relay.written (path (entries-of t) p) output) (λ n. relay.refused n (carried n limit p) output)
       refl (written-unrefused (path (entries-of t) p) output) (λ n. refl);
   header = λ limit os.
-      among (λ a. a .refusal) (row 1 (not (limit-in-range limit)) ∷ []) (told os (look limit os)) (λ n. bare n 0)
+      among (λ a. a .refusal) (row 1 (not (limit-in-range limit)) ∷ []) (told os (look limit os)) (λ n. bare n 0 0)
       (reading-by-row limit os) (told-unrefused os (look limit os)) (λ n. refl);
   write-idle = λ r room. first-among (idle-packet-rows r room);
   read-space = λ os.

@@ -88,7 +88,7 @@ module _ (settings : List ℕ) (stated : settings-numbers ≤ length settings) w
   }
 
   -- the frames that C calls wrote
-  same-frames : (array answer : List ℕ) (lend : ℕ → List ℕ) (cs : List Call) → Long array answer 2
+  same-frames : (array answer : List ℕ) (lend : ℕ → List ℕ) (cs : List Call) → Long array answer 3
       → run-in-c settings array answer lend cs .written ≡ run s lend cs .written
   same-frames array answer lend cs l = ap (λ (x : Sending). x .written) (runs-in-c .sending array answer lend cs l)
 

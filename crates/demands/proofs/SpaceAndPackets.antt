@@ -63,14 +63,14 @@ module _ (os : List ℕ) (o : AllOctets os) (k : 6 ≤ length os) where
 -- what is told of a space packet that is seen to have so many octets
 module _ (os : List ℕ) (total : ℕ) (v : packet-version (getD os 0 0) ≡ 0) where
   tells : (above : Bool)
-      → told os (pick above damaged (whole total))
-      ≡ pick above (bare 0 2) (record { refusal = 0; outcome = 3; version = 0; key = apid os; idle = eqb (apid os) 2047; size = 6; total = total })
+      → told os (pick above (damaged 4) (whole total))
+      ≡ pick above (bare 0 2 4) (record { refusal = 0; outcome = 3; version = 0; key = apid os; idle = eqb (apid os) 2047; size = 6; total = total; damage = 0 })
   unfolding told key-of is-idle size-of
   tells true = refl
   tells false = rw v refl
 
 -- six octets are there, and a total is 7 at least
-sees : (limit len stated : ℕ) → 6 ≤ len → counted limit len 6 (stated + 7) ≡ pick (ltb limit (stated + 7)) damaged (whole (stated + 7))
+sees : (limit len stated : ℕ) → 6 ≤ len → counted limit len 6 (stated + 7) ≡ pick (ltb limit (stated + 7)) (damaged 4) (whole (stated + 7))
 unfolding counted sized
 sees limit len stated k = rw (le-ltb len 6 k, le-ltb (stated + 7) 6 (omega arith)) refl
 
@@ -81,7 +81,7 @@ telling limit os o ok accepted =
     let a = space-accepted os accepted in
     let v : packet-version (getD os 0 0) ≡ 0 = sym (same-version os o (a .0)) ∙ a .1 in
     let total : ℕ = number-at 2 4 os + 7 in
-    let seen : look limit os ≡ pick (ltb limit total) damaged (whole total) =
+    let seen : look limit os ≡ pick (ltb limit total) (damaged 4) (whole total) =
     look-space limit os (λ none. omega arith) v ∙ sees limit (length os) (number-at 2 4 os) (a .0) in
     rw (ok, accepted, same-apid os o (a .0), same-length os o (a .0)) (ap (told os) seen ∙ tells os total v (ltb limit total))
 
@@ -90,7 +90,7 @@ kind-read : (limit : ℕ) (os : List ℕ) → AllOctets os → (k : Look) → lo
     → first (space-read-rows os) ≡ 0
 unfolding told
 kind-read limit os o more e found v = absurd (omega arith)
-kind-read limit os o damaged e found v = absurd (omega arith)
+kind-read limit os o (damaged d) e found v = absurd (omega arith)
 kind-read limit os o (whole total) e found v =
     ⊎-elim (λ k. space-accepts os (k .1) (same-version os o (k .1) ∙ v)) (λ k. absurd (omega arith)) (look-kind limit os e)
 

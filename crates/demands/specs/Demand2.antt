@@ -25,6 +25,7 @@ use Rattle.runfile.specs.Statements.{ReadsRunFiles}
 use Rattle.carries.specs.Demand2List.{OrdersCarried, ListCarried}
 use Rattle.demands.specs.RoundTrip.{OrdersHandedOver, ListHandedOver}
 use Rattle.demands.specs.SpaceAndPackets.{SameHeader}
+use Rattle.demands.specs.Damage.{Damages}
 
 -- fields, once for any place and width of a word: what is put in is read back there, and every field below or above it stays
 pub record Fields : Type 0 where
@@ -35,8 +36,8 @@ pub record Fields : Type 0 where
   pub above : (word place width value : ℕ) → word < 2 ^ 64 → place + width ≤ 64 → (other size : ℕ) → place + width ≤ other
       → field (placed word place width value) other size ≡ field word other size
 
--- a data unit that is wrapped, and a space packet's header that is written, are read back; that header the other way round; and it says the same to
--- the one header reader
+-- a data unit that is wrapped, and a space packet's header that is written, are read back; that header the other way round; it says the same to
+-- the one header reader; and what is wrong with a header is told by each answer that carries it
 pub record Packets : Type 0 where
   pub wrapped : (limit protocol extension : ℕ) (unit output : List ℕ)
       → first (wrap-rows limit protocol extension (length unit) (wrapped-total protocol (length unit)) (length output)) ≡ 0
@@ -46,6 +47,7 @@ pub record Packets : Type 0 where
   pub space-again : (os : List ℕ) → AllOctets os → first (space-read-rows os) ≡ 0
       → space-writing (space-reading os .header) os ≡ record { refusal = 0; output = os }
   pub space-same : SameHeader
+  pub damages : Damages
 
 -- the trailer is the remainder that source 004 prints, and right where its syndrome is zero; a frame with wrong bits of some kinds is refused by
 -- it, and of a burst one bit longer and of one wrong bit more not each is

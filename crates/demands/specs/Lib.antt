@@ -6,5 +6,6 @@ pub mod Numbers
 pub mod Promises
 pub mod RoundTrip
 pub mod SpaceAndPackets
+pub mod Damage
 pub mod Table
 pub mod calls

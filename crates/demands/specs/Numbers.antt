@@ -5,6 +5,7 @@ use Rattle.demands.specs.Numbers.Octets as octets
 use Rattle.demands.specs.Numbers.FrameFields as frames
 use Rattle.demands.specs.Numbers.PacketFields.{SpacePackets, EncapsulationPackets, Parts, IdlePackets}
 use Rattle.demands.specs.Numbers.SpaceFields as space
+use Rattle.demands.specs.Numbers.Damages as damages
 use Rattle.demands.specs.Numbers.Wrapping as wrapping
 use Rattle.demands.specs.Numbers.Relaying as relaying
 use Rattle.demands.specs.Numbers.Multiplexing as multiplexing
@@ -23,6 +24,7 @@ pub mod Only
 pub mod FrameFields
 pub mod PacketFields
 pub mod SpaceFields
+pub mod Damages
 pub mod Wrapping
 pub mod Relaying
 pub mod Multiplexing
@@ -46,6 +48,8 @@ pub record Layouts : Type 0 where
   pub space-packets : SpacePackets
   pub encapsulation-packets : EncapsulationPackets
   pub parts : Parts
+  pub damaged : damages.Headers
+  pub damage-tests : damages.Tests
   pub space-headers : space.Headers
 
 -- what each call is refused for, and in which order
@@ -57,6 +61,7 @@ pub record Refusals : Type 0 where
   pub step : stepping.Refusals
   pub judge : judging.Refusals
   pub wrap : wrapping.Refusals
+  pub damage : damages.Refusals
   pub write-idle : IdlePackets
   pub bitstream : bits.Refusals
   pub trailers : trailers.Refusals
@@ -66,6 +71,7 @@ pub record Outcomes : Type 0 where
   pub multiplexed : multiplexing.Frames
   pub entered : entering.Reasons
   pub stepped : stepping.Events
+  pub damaged : damages.Walks
   pub spent : stepping.Spending
   pub judged : judging.Faults
   pub closed : judging.Verdicts

@@ -49,15 +49,15 @@ pub record Long (array answer : List ℕ) (room : ℕ) : Type 0 where
 -- frames written, all that is said of each frame, the verdict, and the record and the store after it. And what any step names lies
 -- inside the buffer that it names.
 pub record RunsInC (settings : List ℕ) (s : Settings) : Type 0 where
-  pub sending : (array answer : List ℕ) (lend : ℕ → List ℕ) (cs : List Call) → Long array answer 2
+  pub sending : (array answer : List ℕ) (lend : ℕ → List ℕ) (cs : List Call) → Long array answer 3
       → as-sending (run-in-c settings array answer lend cs) ≡ run s lend cs
-  pub listening : (array store answer : List ℕ) (fs : List (List ℕ)) → Long array answer 6
+  pub listening : (array store answer : List ℕ) (fs : List (List ℕ)) → Long array answer 7
       → as-listened (listen-in-c settings (holding (zeroed array) store answer) fs) ≡ listen s Fresh store fs
   pub judging : (array store : List ℕ) (fs : List (List ℕ)) → 4 ≤ length array
       → as-calls (judge-in-c settings (zeroed array) store fs) ≡ judge-calls s store Open fs
   pub closing : (array store answer : List ℕ) (fs : List (List ℕ)) → Long array answer 2
       → close-in-c settings array store answer fs ≡ judge-run s store fs
-  pub naming : (numbers store f answer : List ℕ) → Long numbers answer 4
+  pub naming : (numbers store f answer : List ℕ) → Long numbers answer 5
       → (let l : Left = step-leaves settings numbers store f answer in Inside f (l .octets) (l .answer))
 
 -- ---- the demands
@@ -78,23 +78,23 @@ pub record HandsOverInC (settings : List ℕ) (h : Holding) (fs ps : List (List 
 -- the same of any arrays, and any store, that are long enough
 abbrev pub HandedOverInC : List ℕ → Settings → List (List ℕ) → List (List ℕ) → Type 0
 HandedOverInC settings s fs ps =
-    (array store answer : List ℕ) → Long array answer 6 → s .limit ≤ length store
+    (array store answer : List ℕ) → Long array answer 7 → s .limit ≤ length store
     → HandsOverInC settings (holding (zeroed array) store answer) fs ps
 
 -- Demand 2: the packets of any orders are carried, and handed over; a list of packets alone; and every event
 pub record Demand2InC (settings : List ℕ) (s : Settings) : Type 0 where
-  pub orders : (array answer : List ℕ) (lend : ℕ → List ℕ) (cs : List Call) → Long array answer 2 → Lends s lend → All (Formed s) cs
+  pub orders : (array answer : List ℕ) (lend : ℕ → List ℕ) (cs : List Call) → Long array answer 3 → Lends s lend → All (Formed s) cs
       → Delivers s cs (as-sending (run-in-c settings array answer lend cs))
-  pub orders-back : (array answer : List ℕ) (lend : ℕ → List ℕ) (cs : List Call) → Long array answer 2 → Lends s lend
+  pub orders-back : (array answer : List ℕ) (lend : ℕ → List ℕ) (cs : List Call) → Long array answer 3 → Lends s lend
       → All (Formed s) cs → HandedOverInC settings s (run-in-c settings array answer lend cs .written) (offered s 0 cs)
-  pub list : (array answer : List ℕ) (lend : ℕ → List ℕ) (ps : List (List ℕ)) → Long array answer 2 → Lends s lend
+  pub list : (array answer : List ℕ) (lend : ℕ → List ℕ) (ps : List (List ℕ)) → Long array answer 3 → Lends s lend
       → All (WellFormed (s .limit)) ps
       → Carries s (run-in-c settings array answer lend (map to-put ps) .written) (ps ++ filler s (length (end-to-end ps) % s .zone))
-  pub list-back : (array answer : List ℕ) (lend : ℕ → List ℕ) (ps : List (List ℕ)) → Long array answer 2 → Lends s lend
+  pub list-back : (array answer : List ℕ) (lend : ℕ → List ℕ) (ps : List (List ℕ)) → Long array answer 3 → Lends s lend
       → All (WellFormed (s .limit)) ps
       → HandedOverInC settings s (run-in-c settings array answer lend (map to-put ps) .written)
       (ps ++ filler s (length (end-to-end ps) % s .zone))
-  pub events : (array store answer : List ℕ) (fs : List (List ℕ)) → Long array answer 6 → Fit s store
+  pub events : (array store answer : List ℕ) (fs : List (List ℕ)) → Long array answer 7 → Fit s store
       → listen-in-c settings (holding (zeroed array) store answer) fs .told ≡ told s fresh fs
 
 -- and of a bitstream channel: what a caller reads of each frame of any run, its loss flag included, is what the rule over the whole run gives

@@ -10,12 +10,12 @@ use Rattle.packets.specs.Header.{Reading, bare, reading}
 use Rattle.space.specs.Space.{space-read-rows, space-reading}
 use Rattle.space.specs.declared.SpaceHeader.{SpaceHeader}
 
--- what the header reader is to answer of a packet with such a header: damaged where the total, field + 7, is above the limit, else whole
+-- what the header reader is to answer of a packet with such a header: damaged by 4 where the total, field + 7, is above the limit, else whole
 unfoldable pub as-packet : ℕ → SpaceHeader → Reading
 as-packet limit h =
     let total : ℕ = h .length + 7 in
-    pick (ltb limit total) (bare 0 2)
-    (record { refusal = 0; outcome = 3; version = 0; key = h .apid; idle = eqb (h .apid) 2047; size = 6; total = total })
+    pick (ltb limit total) (bare 0 2 4)
+    (record { refusal = 0; outcome = 3; version = 0; key = h .apid; idle = eqb (h .apid) 2047; size = 6; total = total; damage = 0 })
 
 -- octets that are read as a space packet's header, at any limit in range; and those in which the header reader finds a space packet are so read
 pub record SameHeader : Type 0 where

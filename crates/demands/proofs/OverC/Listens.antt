@@ -38,21 +38,21 @@ use Rattle.demands.proofs.OverC.Names.{step-within, named-shown, named-
 
 -- ---- what a caller reads
 
-entry-back : (n : EnterNumbers) (answer : List ℕ) → 6 ≤ length answer → read-entry (n .refusal) (told answer (enter-numbers n)) ≡ n
+entry-back : (n : EnterNumbers) (answer : List ℕ) → 7 ≤ length answer → read-entry (n .refusal) (told answer (enter-numbers n)) ≡ n
 unfolding enter-numbers
 entry-back n answer h =
-    rw (told-front answer (n .outcome ∷ n .count ∷ n .replay ∷ n .lost ∷ n .dropped ∷ n .reason ∷ []) h) refl
+    rw (told-front answer (n .outcome ∷ n .count ∷ n .replay ∷ n .lost ∷ n .dropped ∷ n .reason ∷ n .damage ∷ []) h) refl
 
-step-back : (f store : List ℕ) (a : Found) (answer : List ℕ) → 4 ≤ length answer
+step-back : (f store : List ℕ) (a : Found) (answer : List ℕ) → 5 ≤ length answer
     → read-step (found-numbers f store a .refusal) (told answer (step-numbers (found-numbers f store a))) ≡ a
 unfolding found-numbers step-numbers read-step
-step-back f store (Refused n) answer h = rw (told-front answer (0 ∷ 0 ∷ 0 ∷ 0 ∷ []) h) refl
-step-back f store (InFrame start size true) answer h = rw (told-front answer (2 ∷ 1 ∷ start ∷ size ∷ []) h) refl
-step-back f store (InFrame start size false) answer h = rw (told-front answer (1 ∷ 1 ∷ start ∷ size ∷ []) h) refl
-step-back f store (InStore size true) answer h = rw (told-front answer (2 ∷ 2 ∷ 0 ∷ size ∷ []) h) refl
-step-back f store (InStore size false) answer h = rw (told-front answer (1 ∷ 2 ∷ 0 ∷ size ∷ []) h) refl
-step-back f store Damaged answer h = rw (told-front answer (3 ∷ 0 ∷ 0 ∷ 0 ∷ []) h) refl
-step-back f store Spent answer h = rw (told-front answer (4 ∷ 0 ∷ 0 ∷ 0 ∷ []) h) refl
+step-back f store (Refused n) answer h = rw (told-front answer (0 ∷ 0 ∷ 0 ∷ 0 ∷ 0 ∷ []) h) refl
+step-back f store (InFrame start size true) answer h = rw (told-front answer (2 ∷ 1 ∷ start ∷ size ∷ 0 ∷ []) h) refl
+step-back f store (InFrame start size false) answer h = rw (told-front answer (1 ∷ 1 ∷ start ∷ size ∷ 0 ∷ []) h) refl
+step-back f store (InStore size true) answer h = rw (told-front answer (2 ∷ 2 ∷ 0 ∷ size ∷ 0 ∷ []) h) refl
+step-back f store (InStore size false) answer h = rw (told-front answer (1 ∷ 2 ∷ 0 ∷ size ∷ 0 ∷ []) h) refl
+step-back f store (Damaged d) answer h = rw (told-front answer (3 ∷ 0 ∷ 0 ∷ 0 ∷ d ∷ []) h) refl
+step-back f store Spent answer h = rw (told-front answer (4 ∷ 0 ∷ 0 ∷ 0 ∷ 0 ∷ []) h) refl
 
 -- ---- what a record's array states
 
@@ -121,7 +121,7 @@ module _ (s : Settings) (numbers store f : List ℕ) (long : 4 ≤ length number
 
 -- the record's array and the answer's are long enough
 abbrev Lent : Holding → Type 0
-Lent h = Long (h .numbers) (h .answer) 6
+Lent h = Long (h .numbers) (h .answer) 7
 
 -- the steps of a C caller and the library's go on together
 record Follows (t : SteppingInC) (q : Finds) : Type 0 where
@@ -162,7 +162,7 @@ module _ (settings : List ℕ) (stated : settings-numbers ≤ length settings) w
       → step-leaves settings (h .numbers) (h .store) f (h .answer)
       ≡ left (said-now f h .refusal) (stepped-numbers f h) (stepped-now f h .store) (after-step f h .answer)
   unfolding stepped-numbers step-leaves step-answer
-  step-left f h l = rw (long-enough settings (h .numbers) (h .answer) 4 stated (l .numbers) (omega (arith, l .answers))) refl
+  step-left f h l = rw (long-enough settings (h .numbers) (h .answer) 5 stated (l .numbers) (omega (arith, l .answers))) refl
 
   -- the steps after one that found this
   abbrev rest-of : ℕ → List ℕ → Found → Holding → SteppingInC
@@ -184,7 +184,7 @@ module _ (settings : List ℕ) (stated : settings-numbers ≤ length settings) w
   unfolding steps-in-c
   one-step n f h l =
       let w : Stepped = stepped-now f h in
-      let room : 4 ≤ length (h .answer) = omega (arith, l .answers) in
+      let room : 5 ≤ length (h .answer) = omega (arith, l .answers) in
       let array : List ℕ = told (h .answer) (step-numbers (said-now f h)) in
       ap (λ (m : Left). onward n f (read-step (m .refusal) (m .answer)) (octets-named f (m .octets) (m .answer)) (holding (m .numbers) (m .octets) (m .answer)))
       (step-left f h l)
@@ -192,12 +192,12 @@ module _ (settings : List ℕ) (stated : settings-numbers ≤ length settings) w
       ∙ ap (λ (part : List ℕ). onward n f (w .found) part (after-step f h))
       (named-shown f (w .store) (h .answer) room (w .found) (step-within s (of h) (h .store) f))
 
-  pub names-inside : (f : List ℕ) (numbers store answer : List ℕ) → Long numbers answer 4
+  pub names-inside : (f : List ℕ) (numbers store answer : List ℕ) → Long numbers answer 5
       → (let m : Left = step-leaves settings numbers store f answer in Inside f (m .octets) (m .answer))
   unfolding step-leaves step-answer
   names-inside f numbers store answer l =
       let w : Stepped = step-call s (extractor-of numbers) store f in
-      rw (long-enough settings numbers answer 4 stated (l .numbers) (l .answers))
+      rw (long-enough settings numbers answer 5 stated (l .numbers) (l .answers))
       (named-inside f (w .store) answer (l .answers) (w .found) (step-within s (extractor-of numbers) store f))
 
   abbrev Stepped-alike : ℕ → Type 0
@@ -248,7 +248,7 @@ module _ (settings : List ℕ) (stated : settings-numbers ≤ length settings) w
       → enter-leaves settings (h .numbers) (h .store) f (h .answer)
       ≡ left (entered-now f h .answer .refusal) (entered-numbers f h) [] (after-entering f h .answer)
   unfolding entered-numbers enter-leaves
-  enter-left f h l = rw (long-enough settings (h .numbers) (h .answer) 6 stated (l .numbers) (l .answers)) refl
+  enter-left f h l = rw (long-enough settings (h .numbers) (h .answer) 7 stated (l .numbers) (l .answers)) refl
 
   abbrev through : List ℕ → EnterNumbers → Holding → FrameInC
   through f e h = record { entered = e; stepped = pick (eqb (e .outcome) 1) (steps-in-c settings f (suc (s .zone)) h) (no-steps h) }
@@ -340,7 +340,7 @@ module _ (settings : List ℕ) (stated : settings-numbers ≤ length settings) w
 
   -- ---- from the start
 
-  module _ (array store answer : List ℕ) (long : 4 ≤ length array) (room : 6 ≤ length answer) (fs : List (List ℕ)) where
+  module _ (array store answer : List ℕ) (long : 4 ≤ length array) (room : 7 ≤ length answer) (fs : List (List ℕ)) where
     abbrev start : Holding
     start = holding (zeroed array) store answer
 

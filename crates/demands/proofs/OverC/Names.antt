@@ -33,7 +33,7 @@ abbrev pub Within : List ℕ → List ℕ → Found → Type 0
 Within f store (Refused n) = Unit {0}
 Within f store (InFrame start size idle) = start + size ≤ length f
 Within f store (InStore size idle) = size ≤ length store
-Within f store Damaged = Unit {0}
+Within f store (Damaged d) = Unit {0}
 Within f store Spent = Unit {0}
 
 -- a part that has an octet is inside
@@ -66,25 +66,25 @@ step-within s x store f =
     rw t (turn-within s f store (m .ranged) (turn s f store (m .ranged) (m .framed) (m .room) x (m .reached) (m .underway))))
     (λ t. rw t tt)
 
-module _ (f store answer : List ℕ) (h : 4 ≤ length answer) where
+module _ (f store answer : List ℕ) (h : 5 ≤ length answer) where
   -- the octets that are named are those that `show` hands back
   pub named-shown : (a : Found) → Within f store a → octets-named f store (told answer (step-numbers (found-numbers f store a))) ≡ shown f store a
   unfolding found-numbers step-numbers shown part-of
-  named-shown (Refused n) w = rw (told-front answer (0 ∷ 0 ∷ 0 ∷ 0 ∷ []) h) refl
-  named-shown (InFrame start size idle) w = rw (told-front answer (_ ∷ 1 ∷ start ∷ size ∷ []) h, le-leb _ _ w) refl
-  named-shown (InStore size idle) w = rw (told-front answer (_ ∷ 2 ∷ 0 ∷ size ∷ []) h, le-leb (0 + size) (length store) (omega arith)) refl
-  named-shown Damaged w = rw (told-front answer (3 ∷ 0 ∷ 0 ∷ 0 ∷ []) h) refl
-  named-shown Spent w = rw (told-front answer (4 ∷ 0 ∷ 0 ∷ 0 ∷ []) h) refl
+  named-shown (Refused n) w = rw (told-front answer (0 ∷ 0 ∷ 0 ∷ 0 ∷ 0 ∷ []) h) refl
+  named-shown (InFrame start size idle) w = rw (told-front answer (_ ∷ 1 ∷ start ∷ size ∷ 0 ∷ []) h, le-leb _ _ w) refl
+  named-shown (InStore size idle) w = rw (told-front answer (_ ∷ 2 ∷ 0 ∷ size ∷ 0 ∷ []) h, le-leb (0 + size) (length store) (omega arith)) refl
+  named-shown (Damaged d) w = rw (told-front answer (3 ∷ 0 ∷ 0 ∷ 0 ∷ d ∷ []) h) refl
+  named-shown Spent w = rw (told-front answer (4 ∷ 0 ∷ 0 ∷ 0 ∷ 0 ∷ []) h) refl
 
   nowhere : (n : ℕ) (rest : List ℕ) → Inside f store (n ∷ 0 ∷ 0 ∷ 0 ∷ rest)
   nowhere n rest = record { in-frame = λ e. absurd (omega arith); in-store = λ e. absurd (omega arith) }
 
   pub named-inside : (a : Found) → Within f store a → Inside f store (told answer (step-numbers (found-numbers f store a)))
   unfolding found-numbers step-numbers
-  named-inside (Refused n) w = rw (told-front answer (0 ∷ 0 ∷ 0 ∷ 0 ∷ []) h) (nowhere 0 _)
+  named-inside (Refused n) w = rw (told-front answer (0 ∷ 0 ∷ 0 ∷ 0 ∷ 0 ∷ []) h) (nowhere 0 _)
   named-inside (InFrame start size idle) w =
-      rw (told-front answer (_ ∷ 1 ∷ start ∷ size ∷ []) h) (record { in-frame = λ e. w; in-store = λ e. absurd (omega arith) })
+      rw (told-front answer (_ ∷ 1 ∷ start ∷ size ∷ 0 ∷ []) h) (record { in-frame = λ e. w; in-store = λ e. absurd (omega arith) })
   named-inside (InStore size idle) w =
-      rw (told-front answer (_ ∷ 2 ∷ 0 ∷ size ∷ []) h) (record { in-frame = λ e. absurd (omega arith); in-store = λ e. omega arith })
-  named-inside Damaged w = rw (told-front answer (3 ∷ 0 ∷ 0 ∷ 0 ∷ []) h) (nowhere 3 _)
-  named-inside Spent w = rw (told-front answer (4 ∷ 0 ∷ 0 ∷ 0 ∷ []) h) (nowhere 4 _)
+      rw (told-front answer (_ ∷ 2 ∷ 0 ∷ size ∷ 0 ∷ []) h) (record { in-frame = λ e. absurd (omega arith); in-store = λ e. omega arith })
+  named-inside (Damaged d) w = rw (told-front answer (3 ∷ 0 ∷ 0 ∷ 0 ∷ d ∷ []) h) (nowhere 3 _)
+  named-inside Spent w = rw (told-front answer (4 ∷ 0 ∷ 0 ∷ 0 ∷ 0 ∷ []) h) (nowhere 4 _)

@@ -64,13 +64,13 @@ flag-back true = refl
 flag-back false = refl
 
 module _ (a : Answer) (array : List ℕ) where
-  reads-full : 2 ≤ length array → says-full (told array (put-numbers a)) ≡ a .full
+  reads-full : 3 ≤ length array → says-full (told array (put-numbers a)) ≡ a .full
   unfolding put-numbers
-  reads-full h = rw (told-front array (bit (a .full) ∷ bit (a .taken) ∷ []) h) (bit-back (a .full))
+  reads-full h = rw (told-front array (bit (a .full) ∷ bit (a .taken) ∷ a .damage ∷ []) h) (bit-back (a .full))
 
-  reads-taken : 2 ≤ length array → says-taken (told array (put-numbers a)) ≡ a .taken
+  reads-taken : 3 ≤ length array → says-taken (told array (put-numbers a)) ≡ a .taken
   unfolding put-numbers
-  reads-taken h = rw (told-front array (bit (a .full) ∷ bit (a .taken) ∷ []) h) (bit-back (a .taken))
+  reads-taken h = rw (told-front array (bit (a .full) ∷ bit (a .taken) ∷ a .damage ∷ []) h) (bit-back (a .taken))
 
 module _ (s : Settings) (m : Mux) (frame : List ℕ) where
   flush-said : (array : List ℕ) → 1 ≤ length array
@@ -91,7 +91,7 @@ module _ (s : Settings) (m : Mux) (frame : List ℕ) where
 
 -- the record's array and the answer's are long enough
 abbrev Lent : SendingInC → Type 0
-Lent x = Long (x .numbers) (x .answer) 2
+Lent x = Long (x .numbers) (x .answer) 3
 
 -- the caller's arrays and buffers stand where the library's run stands
 record Follows (x : SendingInC) (y : Sending) : Type 0 where
@@ -115,7 +115,7 @@ module _ (settings : List ℕ) (stated : settings-numbers ≤ length settings) (
     left-so room says array h = rw (long-enough settings (x .numbers) array room stated long h) refl
 
     -- what was left, with the flag that the caller read, is where the library's run goes on
-    goes-on : (array answer : List ℕ) (full : Bool) → full ≡ said .full → 2 ≤ length answer
+    goes-on : (array answer : List ℕ) (full : Bool) → full ≡ said .full → 3 ≤ length answer
         → Follows (left-by settings lend x (left (said .refusal) numbers-left (said .frame) array) answer full) (after s lend (as-sending x) c)
     goes-on array answer full e h = record {
       same =
@@ -130,7 +130,7 @@ module _ (settings : List ℕ) (stated : settings-numbers ≤ length settings) (
   follows x (to-put p) h =
       let a : Answer = answer s (mux-of (x .numbers)) (to-put p) (x .frame) in
       let array : List ℕ = told (x .answer) (put-numbers a) in
-      rw (left-so x (to-put p) (h .numbers) 2 put-numbers (x .answer) (h .answers))
+      rw (left-so x (to-put p) (h .numbers) 3 put-numbers (x .answer) (h .answers))
       (goes-on x (to-put p) (h .numbers) array array (says-full array) (reads-full a (x .answer) (h .answers))
       (rw (told-long (x .answer) (put-numbers a)) (h .answers)))
   follows x to-flush h =
@@ -150,7 +150,7 @@ module _ (settings : List ℕ) (stated : settings-numbers ≤ length settings) (
       → says-taken (after-in-c settings lend x (to-put p) .answer) ≡ answer s (mux-of (x .numbers)) (to-put p) (x .frame) .taken
   unfolding after-in-c
   says-it-is-taken x p h =
-      rw (left-so x (to-put p) (h .numbers) 2 put-numbers (x .answer) (h .answers))
+      rw (left-so x (to-put p) (h .numbers) 3 put-numbers (x .answer) (h .answers))
       (reads-taken (answer s (mux-of (x .numbers)) (to-put p) (x .frame)) (x .answer) (h .answers))
 
   -- ---- the run
@@ -187,7 +187,7 @@ unfolding begin-leaves
 begins array long = rw (le-ltb _ _ long) refl
 
 pub sends-in-c : (settings : List ℕ) → settings-numbers ≤ length settings → (array answer : List ℕ) (lend : ℕ → List ℕ) (cs : List Call) → 4 ≤ length array
-    → 2 ≤ length answer → as-sending (run-in-c settings array answer lend cs) ≡ run (settings-of settings) lend cs
+    → 3 ≤ length answer → as-sending (run-in-c settings array answer lend cs) ≡ run (settings-of settings) lend cs
 sends-in-c settings stated array answer lend cs long room =
     let start : mux-of (told array (mux-numbers begun)) ≡ begun = stated-again array .mux begun long (omega arith) in
     rw (begins array long)

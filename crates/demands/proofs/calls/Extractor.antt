@@ -34,7 +34,7 @@ Unrefused f w = said f w .answer .refusal ≡ 0
 looked : (s : Settings) (f store : List ℕ) (last h at : ℕ) (rest : List ℕ) (k : Look) → Unrefused f (step-look s store last h at rest k)
 unfolding step-look handed-over found-numbers
 looked s f store last h at rest more = refl
-looked s f store last h at rest damaged = refl
+looked s f store last h at rest (damaged d) = refl
 looked s f store last h at rest (whole l) =
     test (leb l (h + length rest)) (λ t. test (eqb h 0) (λ u. rw (t, u) refl) (λ u. rw (t, u) refl)) (λ t. rw t refl)
 

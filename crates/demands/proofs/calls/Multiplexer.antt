@@ -6,7 +6,7 @@ use mathlib.Core.List.{List}
 use lib.ListN.{length}
 use denote.Ref.{now}
 use Rattle.frames.specs.declared.Settings.{Settings}
-use Rattle.multiplexer.specs.Calls.{Call, to-put, to-flush, to-idle, call-rows, call, refusing, doing, answers, answer, Outcome}
+use Rattle.multiplexer.specs.Calls.{Call, to-put, to-flush, to-idle, call-rows, call, call-damage, refusing, doing, answers, answer, Outcome}
 use Rattle.multiplexer.specs.declared.Mux.{Mux}
 use Rattle.multiplexer.specs.declared.Reply.{Reply}
 use Rattle.multiplexer.proofs.Answers.{determined}
@@ -21,7 +21,7 @@ answering : (s : Settings) (m : Mux) (c : Call) (frame : List ℕ)
 unfolding answer
 answering s m c frame =
     promised (λ (o : Left Reply). answers (o .answer) (o .lent)) (λ a. a .refusal) (call-rows s m c (length frame)) (doing (call s m c frame))
-    (λ n. refusing n m frame) refl refl (λ n. refl)
+    (λ n. refusing n (call-damage s c n) m frame) refl refl (λ n. refl)
     (record {
       free = tt;
       gives = λ o m. m;

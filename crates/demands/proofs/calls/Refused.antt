@@ -88,11 +88,11 @@ refused-keep = record {
       (λ t. rw t (λ h. (rw (ne-eqb (a .refusal) 0 h) refl, answer-kept (settings-of settings) (mux-of numbers) call frame h)));
   enter = λ settings numbers store frame array.
       let a = enter-answer (settings-of settings) (extractor-of numbers) store frame in
-      test (short (length settings) (length numbers) (length array) 6) (λ t. rw t (λ h. (refl, refl)))
+      test (short (length settings) (length numbers) (length array) 7) (λ t. rw t (λ h. (refl, refl)))
       (λ t. rw t (λ h. (rw (ne-eqb (a .answer .refusal) 0 h) refl, refl)));
   step = λ settings numbers store frame array.
       let a = step-answer (settings-of settings) (extractor-of numbers) store frame in
-      test (short (length settings) (length numbers) (length array) 4) (λ t. rw t (λ h. (refl, refl)))
+      test (short (length settings) (length numbers) (length array) 5) (λ t. rw t (λ h. (refl, refl)))
       (λ t. rw t (λ h. (rw (ne-eqb (a .answer .refusal) 0 h) refl, step-kept (settings-of settings) (extractor-of numbers) store frame h)));
   judge = λ settings numbers store frame.
       let a = frame-call (settings-of settings) store (judge-of numbers) frame in
@@ -107,7 +107,7 @@ refused-keep = record {
       test (bits-short (length settings) (length numbers) 3 (length array) 6) (λ t. rw t (λ h. (refl, refl)))
       (λ t. rw t (λ h. (rw (ne-eqb (a .refusal) 0 h) refl, refl)));
   wrapped = λ limit protocol extension unit packet array.
-      test (ltb (length array) 1) (λ t. rw t (λ h. (refl, refl))) (λ t. rw t (λ h. (refl, wrapped-kept limit protocol extension unit packet h)));
+      test (ltb (length array) 2) (λ t. rw t (λ h. (refl, refl))) (λ t. rw t (λ h. (refl, wrapped-kept limit protocol extension unit packet h)));
   space-written = λ header octets.
       test (ltb (length header) 7) (λ t. rw t (λ h. (refl, refl))) (λ t. rw t (λ h. (refl, space-kept (header-of header) octets h)));
   loaded = λ entries table.
@@ -115,6 +115,6 @@ refused-keep = record {
       test (or (not (eqb (length entries % 2) 0)) (ltb (length table) 65)) (λ t. rw t (λ h. (refl, refl)))
       (λ t. rw t (test (wide entries) (λ w. rw w (λ h. (refl, refl))) (λ w. rw w (λ h. (rw (ne-eqb (a .refusal) 0 h) refl, refl)))));
   routed = λ limit table packet destinations array.
-      test (or (ltb (length table) 65) (ltb (length array) 2)) (λ t. rw t (λ h. (refl, refl)))
+      test (or (ltb (length table) 65) (ltb (length array) 3)) (λ t. rw t (λ h. (refl, refl)))
       (λ t. rw t (λ h. (refl, routed-kept limit (table-of table) packet destinations h)));
 }

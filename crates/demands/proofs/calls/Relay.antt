@@ -9,6 +9,7 @@ use denote.Ref.{now}
 use borrow.Author.Tests.{eqb-true}
 use Rattle.octets.specs.Basics.{first}
 use Rattle.octets.proofs.Tests.{test}
+use Rattle.packets.specs.Packet.{carried}
 use Rattle.relay.specs.Table.{load-rows, table-of, entries-of, loading}
 use Rattle.relay.specs.Route.{path, refused, written, routing, routes}
 use Rattle.relay.specs.declared.Entry.{Entry}
@@ -40,7 +41,7 @@ of-relay = record {
       (record { free = tt; gives = λ o m. m; one = λ o o′ p q. p ∙ sym q });
   route = λ κs limit t p-lent out-lent.
       promised (λ (o : Left Routed). routes (o .answer) (o .lent)) (λ a. a .refusal) _ (written (path (entries-of t) (now p-lent)) (now out-lent))
-      (λ n. refused n (now out-lent)) refl (written-unrefused (path (entries-of t) (now p-lent)) (now out-lent)) (λ n. refl)
+      (λ n. refused n (carried n limit (now p-lent)) (now out-lent)) refl (written-unrefused (path (entries-of t) (now p-lent)) (now out-lent)) (λ n. refl)
       (record {
         free = tt;
         gives = λ o m. m;

@@ -21,8 +21,8 @@ of-wrapping = record {
       let unit : List ℕ = now unit-lent in
       let out : List ℕ = now out-lent in
       promised (λ (o : Left Wrapped). wraps (o .answer) (o .lent)) (λ a. a .refusal) _
-      (record { accepted = true; refusal = 0; total = wrapped-total protocol (length unit); output = over out 0 (wrapped protocol extension unit) })
-      (λ n. record { accepted = false; refusal = n; total = 0; output = out }) refl refl (λ n. refl)
+      (record { accepted = true; refusal = 0; damage = 0; total = wrapped-total protocol (length unit); output = over out 0 (wrapped protocol extension unit) })
+      (λ n. record { accepted = false; refusal = n; damage = 0; total = 0; output = out }) refl refl (λ n. refl)
       (record {
         free = tt;
         gives = λ o m. m;

@@ -1,4 +1,4 @@
--- What entering is refused for, and its five numbers: count, replay, lost, dropped and reason.
+-- What entering is refused for, and its six numbers: count, replay, lost, dropped, reason and damage.
 use Prim.Native.Nat.{ℕ}
 use mathlib.Core.Path.{_≡_}
 use mathlib.Core.List.{List, [], _∷_, _++_, map}
@@ -58,10 +58,17 @@ pub record Records : Type 0 where
       ≡ 0 ∷ 0 ∷ 10 ∷ 0 ∷ 10 ∷ 10 ∷ []
   pub damaged : held (0x20 ∷ []) (InStep 0 1) ∷ held (0xE9 ∷ 0x0D ∷ []) (InStep 0 2) ∷ held (0xE9 ∷ 0x0C ∷ []) (InStep 0 2) ∷ [] ≡ 10 ∷ 10 ∷ 0 ∷ []
 
--- a frame that is entered: its count, replay flag, lost, dropped, reason, and the record after it
+-- a frame that is entered: its count, replay flag, lost, dropped, reason, damage, and the record after it
+abbrev pub enters-as : ℕ → ℕ → ℕ → ℕ → ℕ → ℕ → Extractor → EnterSaid
+enters-as count replay lost dropped reason damage next =
+    record { answer = record { refusal = 0; outcome = 1; count = count; replay = replay; lost = lost; dropped = dropped; reason = reason; damage = damage }; next = next }
+
+-- the same without damage, and of one octet dropped for its header's damage before the frame with count 1
 abbrev pub says : ℕ → ℕ → ℕ → ℕ → ℕ → Extractor → EnterSaid
-says count replay lost dropped reason next =
-    record { answer = record { refusal = 0; outcome = 1; count = count; replay = replay; lost = lost; dropped = dropped; reason = reason }; next = next }
+says count replay lost dropped reason next = enters-as count replay lost dropped reason 0 next
+
+abbrev pub hurt : ℕ → ℕ → Extractor → EnterSaid
+hurt dropped damage next = enters-as 1 0 0 dropped 3 damage next
 
 -- entering a frame whose zone begins so, over a store that begins so
 abbrev pub enters : Extractor → List ℕ → ℕ → ℕ → ℕ → List ℕ → EnterSaid
@@ -101,10 +108,10 @@ pub record Reasons : Type 0 where
   -- a header that stays unfinished: 2,047 agrees, and no other
   pub unfinished : map (λ low. enter-answer least (InStep 0 1) (0x00 ∷ lent 6) (frame 1 0x07 low (0x05 ∷ []))) (0xFF ∷ 0xFE ∷ [])
       ≡ says 1 0 0 0 0 (Walking 1 1 0) ∷ says 1 0 0 1 2 (Walking 1 0 1) ∷ []
-  -- a header that is damaged, by a length below it or above M: reason 3, whatever the pointer
-  pub damaged : map (λ low. enters (InStep 0 1) (0xE9 ∷ []) 1 0 low (0x01 ∷ 0 ∷ [])) (0 ∷ 1 ∷ []) ≡ says 1 0 0 1 3 (Walking 1 0 0) ∷ says 1 0 0 1 3 (Walking 1 0 1) ∷ []
-  pub too-long : enters (InStep 0 1) (0xE9 ∷ []) 1 0x07 0xFF (0x0D ∷ 0 ∷ []) ≡ says 1 0 0 1 3 (Leaving 1)
+  -- a header that is damaged, by a length below it, 3, or above M, 4: reason 3, whatever the pointer
+  pub damaged : map (λ low. enters (InStep 0 1) (0xE9 ∷ []) 1 0 low (0x01 ∷ 0 ∷ [])) (0 ∷ 1 ∷ []) ≡ hurt 1 3 (Walking 1 0 0) ∷ hurt 1 3 (Walking 1 0 1) ∷ []
+  pub too-long : enters (InStep 0 1) (0xE9 ∷ []) 1 0x07 0xFF (0x0D ∷ 0 ∷ []) ≡ hurt 1 4 (Leaving 1)
   pub damaged-reserved : map (λ low. enters (InStep 0 1) (0xE9 ∷ []) 1 0x07 low (0x01 ∷ 0 ∷ [])) (0xFE ∷ 0xFF ∷ [])
-      ≡ says 1 0 0 1 3 (Walking 1 0 10) ∷ says 1 0 0 1 3 (Leaving 1) ∷ []
+      ≡ hurt 1 3 (Walking 1 0 10) ∷ hurt 1 3 (Leaving 1) ∷ []
   -- the replay flag is reported
   pub replayed : enter-answer small Fresh (lent 12) (headed (0x50 ∷ 0x83 ∷ 0 ∷ 0 ∷ 7 ∷ 0x80 ∷ 0 ∷ 0 ∷ [])) ≡ says 7 1 0 0 0 (Walking 7 0 0)

@@ -36,34 +36,45 @@ pub record Settings : Type 0 where
 abbrev pub six : List ℕ
 six = 0xFA ∷ 0x05 ∷ 0x00 ∷ 0x06 ∷ 0xAA ∷ 0xBB ∷ []
 
--- headers: more octets needed, damaged, a space packet, an idle packet; a limit that cannot be, and an array that is short
+-- packets that are damaged: each of the four
+abbrev pub torn : List (List ℕ)
+torn = (0x20 ∷ []) ∷ (0xEC ∷ []) ∷ (0xE9 ∷ 0x01 ∷ []) ∷ (0xE9 ∷ 0x0D ∷ []) ∷ []
+
+-- headers: more octets needed, a space packet, an idle packet, damaged; a limit that cannot be, and an array that is short
 pub record Packets : Type 0 where
-  pub headers : map (λ (os : List ℕ). header-leaves 12 os (lent 7)) ([] ∷ (0xEC ∷ []) ∷ ten ∷ (0xE1 ∷ 0x07 ∷ []) ∷ [])
-      ≡ left 0 [] [] (1 ∷ 0 ∷ 0 ∷ 0 ∷ 0 ∷ 0 ∷ 0xFF ∷ [])
-      ∷ left 0 [] [] (2 ∷ 0 ∷ 0 ∷ 0 ∷ 0 ∷ 0 ∷ 0xFF ∷ [])
-      ∷ left 0 [] [] (3 ∷ 1 ∷ 0 ∷ 5 ∷ 6 ∷ 10 ∷ 0xFF ∷ [])
-      ∷ left 0 [] [] (3 ∷ 2 ∷ 1 ∷ 0 ∷ 2 ∷ 7 ∷ 0xFF ∷ [])
+  pub headers : map (λ (os : List ℕ). header-leaves 12 os (lent 8)) ([] ∷ ten ∷ (0xE1 ∷ 0x07 ∷ []) ∷ [])
+      ≡ left 0 [] [] (1 ∷ 0 ∷ 0 ∷ 0 ∷ 0 ∷ 0 ∷ 0 ∷ 0xFF ∷ [])
+      ∷ left 0 [] [] (3 ∷ 1 ∷ 0 ∷ 5 ∷ 6 ∷ 10 ∷ 0 ∷ 0xFF ∷ [])
+      ∷ left 0 [] [] (3 ∷ 2 ∷ 1 ∷ 0 ∷ 2 ∷ 7 ∷ 0 ∷ 0xFF ∷ [])
       ∷ []
-  pub refused : header-leaves 6 ten (lent 6) ≡ left 1 [] [] (0 ∷ 0 ∷ 0 ∷ 0 ∷ 0 ∷ 0 ∷ [])
-  pub short : header-leaves 6 ten (lent 5) ≡ left 2 [] [] (lent 5)
+  -- damage 1 to 4
+  pub damaged : map (λ (os : List ℕ). header-leaves 12 os (lent 8)) torn ≡ map (λ (d : ℕ). left 0 [] [] (2 ∷ 0 ∷ 0 ∷ 0 ∷ 0 ∷ 0 ∷ d ∷ 0xFF ∷ [])) (1 ∷ 2 ∷ 3 ∷ 4 ∷ [])
+  pub refused : header-leaves 6 ten (lent 7) ≡ left 1 [] [] (0 ∷ 0 ∷ 0 ∷ 0 ∷ 0 ∷ 0 ∷ 0 ∷ [])
+  pub short : header-leaves 6 ten (lent 6) ≡ left 2 [] [] (lent 6)
   pub formed : map (λ (p : List ℕ). formed-leaves 12 p (lent 1)) (ten ∷ six ∷ [] ∷ [])
       ≡ left 0 [] [] (1 ∷ []) ∷ left 0 [] [] (1 ∷ []) ∷ left 0 [] [] (2 ∷ []) ∷ []
-  pub wrapped : wrap-leaves 12 6 5 (0xAA ∷ 0xBB ∷ []) (lent 7) (lent 1) ≡ left 0 [] (six ++ (0xFF ∷ [])) (6 ∷ [])
-  pub unwrapped : unwrap-leaves 12 six (lent 4) ≡ left 0 [] [] (6 ∷ 5 ∷ 4 ∷ 2 ∷ [])
-  pub unit : unit-leaves (6 ∷ 5 ∷ 4 ∷ 2 ∷ []) six (lent 2) ≡ left 0 [] [] (4 ∷ 2 ∷ [])
-  pub no-unit : unit-leaves (6 ∷ 5 ∷ 4 ∷ 3 ∷ []) six (lent 2) ≡ left 0 [] [] (0 ∷ 0 ∷ [])
+  pub wrapped : wrap-leaves 12 6 5 (0xAA ∷ 0xBB ∷ []) (lent 7) (lent 2) ≡ left 0 [] (six ++ (0xFF ∷ [])) (6 ∷ 0 ∷ [])
+  pub not-wrapped : wrap-leaves 12 6 5 [] (lent 7) (lent 2) ∷ wrap-leaves 12 6 5 (lent 9) (lent 7) (lent 2) ∷ [] ≡ each (lent 2) (left 8 [] (lent 7) (0 ∷ 0 ∷ []))
+  pub unwrapped : unwrap-leaves 12 six (lent 5) ≡ left 0 [] [] (6 ∷ 5 ∷ 4 ∷ 2 ∷ 0 ∷ [])
+  -- damage 1 to 4; and 0 for a space packet
+  pub not-unwrapped : map (λ (p : List ℕ). unwrap-leaves 12 p (lent 6)) (torn ++ (ten ∷ [])) ≡ map (λ (d : ℕ). left 8 [] [] (0 ∷ 0 ∷ 0 ∷ 0 ∷ d ∷ 0xFF ∷ [])) (1 ∷ 2 ∷ 3 ∷ 4 ∷ 0 ∷ [])
+  pub unit : unit-leaves (6 ∷ 5 ∷ 4 ∷ 2 ∷ 0 ∷ []) six (lent 2) ≡ left 0 [] [] (4 ∷ 2 ∷ [])
+  pub no-unit : unit-leaves (6 ∷ 5 ∷ 4 ∷ 3 ∷ 0 ∷ []) six (lent 2) ≡ left 0 [] [] (0 ∷ 0 ∷ [])
   -- a space packet's header: total; version, type, secondary header, APID, flags, count, length field
   pub space-read : read-space-leaves (0x10 ∷ 0x05 ∷ 0xC0 ∷ 0x09 ∷ 0x00 ∷ 0x01 ∷ []) (lent 8) ≡ left 0 [] [] (8 ∷ 0 ∷ 1 ∷ 0 ∷ 5 ∷ 3 ∷ 9 ∷ 1 ∷ [])
   pub space-written : write-space-leaves (0 ∷ 1 ∷ 0 ∷ 5 ∷ 3 ∷ 9 ∷ 1 ∷ []) (lent 7)
       ≡ left 0 [] (0x10 ∷ 0x05 ∷ 0xC0 ∷ 0x09 ∷ 0x00 ∷ 0x01 ∷ 0xFF ∷ []) []
 
--- the multiplexer's record: count, octets laid, first start, octets taken; an answer: full, taken; a flush: nothing begun, or a frame
+-- the multiplexer's record: count, octets laid, first start, octets taken; an answer: full, taken, damage; a flush: nothing begun, or a frame
 pub record Multiplexer : Type 0 where
   pub begun : begin-leaves (lent 5) ≡ left 0 (0 ∷ 0 ∷ 2047 ∷ 0 ∷ 0xFF ∷ []) [] []
-  pub taken : mux-leaves (to-put seven) 2 put-numbers settings (4 ∷ 0 ∷ 2047 ∷ 0 ∷ []) (lent 18) (lent 2)
-      ≡ left 0 (4 ∷ 7 ∷ 0 ∷ 0 ∷ []) (lent 8 ++ (seven ++ lent 3)) (0 ∷ 1 ∷ [])
-  pub full : mux-leaves (to-put seven) 2 put-numbers settings (4 ∷ 5 ∷ 0 ∷ 0 ∷ []) (lent 18) (lent 2)
-      ≡ left 0 (5 ∷ 0 ∷ 2047 ∷ 5 ∷ []) (frame 4 0x00 0x00 (lent 5 ++ (0x00 ∷ 0x05 ∷ 0xC0 ∷ 0x00 ∷ 0x00 ∷ []))) (1 ∷ 0 ∷ [])
+  pub taken : mux-leaves (to-put seven) 3 put-numbers settings (4 ∷ 0 ∷ 2047 ∷ 0 ∷ []) (lent 18) (lent 3)
+      ≡ left 0 (4 ∷ 7 ∷ 0 ∷ 0 ∷ []) (lent 8 ++ (seven ++ lent 3)) (0 ∷ 1 ∷ 0 ∷ [])
+  pub full : mux-leaves (to-put seven) 3 put-numbers settings (4 ∷ 5 ∷ 0 ∷ 0 ∷ []) (lent 18) (lent 3)
+      ≡ left 0 (5 ∷ 0 ∷ 2047 ∷ 5 ∷ []) (frame 4 0x00 0x00 (lent 5 ++ (0x00 ∷ 0x05 ∷ 0xC0 ∷ 0x00 ∷ 0x00 ∷ []))) (1 ∷ 0 ∷ 0 ∷ [])
+  -- damage 1 to 4
+  pub damaged : map (λ (p : List ℕ). mux-leaves (to-put p) 3 put-numbers settings (4 ∷ 0 ∷ 2047 ∷ 0 ∷ []) (lent 18) (lent 3)) torn
+      ≡ map (λ (d : ℕ). left 8 (4 ∷ 0 ∷ 2047 ∷ 0 ∷ []) (lent 18) (0 ∷ 0 ∷ d ∷ [])) (1 ∷ 2 ∷ 3 ∷ 4 ∷ [])
   pub nothing : mux-leaves to-flush 1 flush-numbers settings (4 ∷ 0 ∷ 2047 ∷ 0 ∷ []) (lent 18) (lent 1)
       ≡ left 0 (4 ∷ 0 ∷ 2047 ∷ 0 ∷ []) (lent 18) (1 ∷ [])
   pub flushed : mux-leaves to-flush 1 flush-numbers settings (4 ∷ 8 ∷ 0 ∷ 0 ∷ []) (lent 18) (lent 1)
@@ -78,24 +89,27 @@ store = 0xE9 ∷ 0x05 ∷ lent 10
 abbrev pub rest : List ℕ
 rest = 0x11 ∷ 0x22 ∷ 0x33 ∷ 0xE1 ∷ 0x07 ∷ 0x55 ∷ 0x55 ∷ 0x55 ∷ 0x55 ∷ 0x55 ∷ []
 
--- the extractor's record: kind, last count, octets held, place of the walk; entering: entered, count, replay, lost, dropped, reason; a step:
--- what it was, where the packet lies, its start, its size
+-- the extractor's record: kind, last count, octets held, place of the walk; entering: entered, count, replay, lost, dropped, reason, damage;
+-- a step: what it was, where the packet lies, its start, its size, damage
 pub record Extractor : Type 0 where
-  pub entered : enter-leaves settings (2 ∷ 0 ∷ 2 ∷ 0 ∷ []) store (frame 1 0x00 0x03 rest) (lent 6)
-      ≡ left 0 (3 ∷ 1 ∷ 2 ∷ 0 ∷ []) [] (1 ∷ 1 ∷ 0 ∷ 0 ∷ 0 ∷ 0 ∷ [])
-  pub lost : enter-leaves settings (2 ∷ 0 ∷ 2 ∷ 0 ∷ []) store (frame 5 0x00 0x03 rest) (lent 6)
-      ≡ left 0 (3 ∷ 5 ∷ 0 ∷ 3 ∷ []) [] (1 ∷ 5 ∷ 0 ∷ 4 ∷ 2 ∷ 1 ∷ [])
-  pub early : enter-leaves settings (3 ∷ 1 ∷ 2 ∷ 0 ∷ []) store (frame 1 0x00 0x03 rest) (lent 6)
-      ≡ left 9 (3 ∷ 1 ∷ 2 ∷ 0 ∷ []) [] (0 ∷ 0 ∷ 0 ∷ 0 ∷ 0 ∷ 0 ∷ [])
-  pub in-store : step-leaves settings (3 ∷ 1 ∷ 2 ∷ 0 ∷ []) store (frame 1 0x00 0x03 rest) (lent 4)
-      ≡ left 0 (3 ∷ 1 ∷ 0 ∷ 3 ∷ []) (0xE9 ∷ 0x05 ∷ 0x11 ∷ 0x22 ∷ 0x33 ∷ lent 7) (1 ∷ 2 ∷ 0 ∷ 5 ∷ [])
-  pub in-frame : step-leaves settings (3 ∷ 1 ∷ 0 ∷ 3 ∷ []) store (frame 1 0x00 0x03 rest) (lent 4)
-      ≡ left 0 (3 ∷ 1 ∷ 0 ∷ 10 ∷ []) store (2 ∷ 1 ∷ 11 ∷ 7 ∷ [])
-  pub spent : step-leaves settings (3 ∷ 1 ∷ 0 ∷ 10 ∷ []) store (frame 1 0x00 0x03 rest) (lent 4)
-      ≡ left 0 (2 ∷ 1 ∷ 0 ∷ 0 ∷ []) store (4 ∷ 0 ∷ 0 ∷ 0 ∷ [])
-  pub damaged : step-leaves settings (3 ∷ 1 ∷ 0 ∷ 1 ∷ []) store (frame 1 0x00 0x03 rest) (lent 4)
-      ≡ left 0 (4 ∷ 1 ∷ 0 ∷ 0 ∷ []) store (3 ∷ 0 ∷ 0 ∷ 0 ∷ [])
-  pub shown : map (λ (step : List ℕ). show-leaves step (frame 1 0x00 0x03 rest) store (lent 3)) ((1 ∷ 2 ∷ 0 ∷ 5 ∷ []) ∷ (2 ∷ 1 ∷ 11 ∷ 7 ∷ []) ∷ (2 ∷ 1 ∷ 11 ∷ 8 ∷ []) ∷ [])
+  pub entered : enter-leaves settings (2 ∷ 0 ∷ 2 ∷ 0 ∷ []) store (frame 1 0x00 0x03 rest) (lent 7)
+      ≡ left 0 (3 ∷ 1 ∷ 2 ∷ 0 ∷ []) [] (1 ∷ 1 ∷ 0 ∷ 0 ∷ 0 ∷ 0 ∷ 0 ∷ [])
+  pub lost : enter-leaves settings (2 ∷ 0 ∷ 2 ∷ 0 ∷ []) store (frame 5 0x00 0x03 rest) (lent 7)
+      ≡ left 0 (3 ∷ 5 ∷ 0 ∷ 3 ∷ []) [] (1 ∷ 5 ∷ 0 ∷ 4 ∷ 2 ∷ 1 ∷ 0 ∷ [])
+  pub early : enter-leaves settings (3 ∷ 1 ∷ 2 ∷ 0 ∷ []) store (frame 1 0x00 0x03 rest) (lent 7)
+      ≡ left 9 (3 ∷ 1 ∷ 2 ∷ 0 ∷ []) [] (0 ∷ 0 ∷ 0 ∷ 0 ∷ 0 ∷ 0 ∷ 0 ∷ [])
+  pub in-store : step-leaves settings (3 ∷ 1 ∷ 2 ∷ 0 ∷ []) store (frame 1 0x00 0x03 rest) (lent 5)
+      ≡ left 0 (3 ∷ 1 ∷ 0 ∷ 3 ∷ []) (0xE9 ∷ 0x05 ∷ 0x11 ∷ 0x22 ∷ 0x33 ∷ lent 7) (1 ∷ 2 ∷ 0 ∷ 5 ∷ 0 ∷ [])
+  pub in-frame : step-leaves settings (3 ∷ 1 ∷ 0 ∷ 3 ∷ []) store (frame 1 0x00 0x03 rest) (lent 5)
+      ≡ left 0 (3 ∷ 1 ∷ 0 ∷ 10 ∷ []) store (2 ∷ 1 ∷ 11 ∷ 7 ∷ 0 ∷ [])
+  pub spent : step-leaves settings (3 ∷ 1 ∷ 0 ∷ 10 ∷ []) store (frame 1 0x00 0x03 rest) (lent 5)
+      ≡ left 0 (2 ∷ 1 ∷ 0 ∷ 0 ∷ []) store (4 ∷ 0 ∷ 0 ∷ 0 ∷ 0 ∷ [])
+  -- damage 1 to 4 of a step; and 3 and 4 at entering, where the header of an octet held goes on with 1 and with 13
+  pub damaged : map (λ (p : List ℕ). step-leaves settings (3 ∷ 1 ∷ 0 ∷ 0 ∷ []) store (frame 1 0x00 0x00 (p ++ lent (10 - length p))) (lent 5)) torn
+      ≡ map (λ (d : ℕ). left 0 (4 ∷ 1 ∷ 0 ∷ 0 ∷ []) store (3 ∷ 0 ∷ 0 ∷ 0 ∷ d ∷ [])) (1 ∷ 2 ∷ 3 ∷ 4 ∷ [])
+  pub dropped : map (λ (stated : ℕ). enter-leaves settings (2 ∷ 0 ∷ 1 ∷ 0 ∷ []) store (frame 1 0x07 0xFF (stated ∷ lent 9)) (lent 7)) (1 ∷ 13 ∷ [])
+      ≡ map (λ (d : ℕ). left 0 (4 ∷ 1 ∷ 0 ∷ 0 ∷ []) [] (1 ∷ 1 ∷ 0 ∷ 0 ∷ 1 ∷ 3 ∷ d ∷ [])) (3 ∷ 4 ∷ [])
+  pub shown : map (λ (step : List ℕ). show-leaves step (frame 1 0x00 0x03 rest) store (lent 3)) ((1 ∷ 2 ∷ 0 ∷ 5 ∷ 0 ∷ []) ∷ (2 ∷ 1 ∷ 11 ∷ 7 ∷ 0 ∷ []) ∷ (2 ∷ 1 ∷ 11 ∷ 8 ∷ 0 ∷ []) ∷ [])
       ≡ left 0 [] [] (2 ∷ 0 ∷ 5 ∷ []) ∷ left 0 [] [] (1 ∷ 11 ∷ 7 ∷ []) ∷ left 0 [] [] (0 ∷ 0 ∷ 0 ∷ []) ∷ []
 
 -- the judge's record: kind, tally, last count or first fault, octets held; the close: pass or fault, and its index
@@ -118,8 +132,8 @@ pub record Bits : Type 0 where
   pub waited : map (λ waiting. read-leaves bit-settings (1 ∷ 3 ∷ waiting ∷ []) (frame 4 0x00 0x08 (lent 2)) (lent 6)) (0 ∷ 1 ∷ [])
       ≡ map (λ lost. left 0 (1 ∷ 4 ∷ 0 ∷ []) [] (4 ∷ 0 ∷ lost ∷ 9 ∷ 8 ∷ 2 ∷ [])) (0 ∷ 1 ∷ [])
 
--- a relay table's array: how many entries, then an APID and a destination for each, and 0 past the last; an answer: whether there is a path, and how
--- many destinations
+-- a relay table's array: how many entries, then an APID and a destination for each, and 0 past the last; an answer: whether there is a path, how many
+-- destinations, and damage
 abbrev pub table : List ℕ → List ℕ
 table ns = ns ++ replicate (65 - length ns) 0
 
@@ -138,14 +152,14 @@ pub record Relay : Type 0 where
   -- 12, also for an APID that fits no field; 1 for a destination above 255, before it and behind the last entry that a table has
   pub no-table : map (λ (es : List ℕ). load-leaves es paths) ((2047 ∷ 0 ∷ []) ∷ (65536 ∷ 0 ∷ []) ∷ (4294967301 ∷ 7 ∷ 5 ∷ 9 ∷ []) ∷ (5 ∷ 7 ∷ 5 ∷ 7 ∷ []) ∷ many 33 [] ∷ []) ≡ each (lent 5) (left 12 paths [] [])
   pub no-destination : map (λ (es : List ℕ). load-leaves es paths) ((2047 ∷ 256 ∷ []) ∷ (5 ∷ 256 ∷ 6 ∷ 7 ∷ []) ∷ (5 ∷ 4294967303 ∷ []) ∷ many 33 (5 ∷ 256 ∷ []) ∷ []) ≡ each (lent 4) (left 1 paths [] [])
-  pub path : route-leaves 12 paths ten (lent 3) (lent 3) ≡ left 0 [] (7 ∷ 2 ∷ 0xFF ∷ []) (2 ∷ 2 ∷ 0xFF ∷ [])
+  pub path : route-leaves 12 paths ten (lent 3) (lent 4) ≡ left 0 [] (7 ∷ 2 ∷ 0xFF ∷ []) (2 ∷ 2 ∷ 0 ∷ 0xFF ∷ [])
   -- all zeros are the table that a caller starts with
-  pub no-path : route-leaves 12 paths (0xE0 ∷ []) [] (lent 2) ∷ route-leaves 12 (table []) ten [] (lent 2) ∷ [] ≡ each (lent 2) (left 0 [] [] (1 ∷ 0 ∷ []))
-  pub no-room : route-leaves 12 paths ten (lent 1) (lent 2) ≡ left 2 [] (lent 1) (0 ∷ 0 ∷ [])
-  -- 1 and 8 in their turn; 10 for more entries than 32, an APID above 2,046, a destination above 255, the same pair twice, and a number past the entries
-  pub refused : route-leaves 6 paths ten (lent 2) (lent 2) ∷ route-leaves 4294967308 paths ten (lent 2) (lent 2) ∷ route-leaves 12 paths (0xEC ∷ []) (lent 2) (lent 2) ∷ []
-      ≡ left 1 [] (lent 2) (0 ∷ 0 ∷ []) ∷ left 1 [] (lent 2) (0 ∷ 0 ∷ []) ∷ left 8 [] (lent 2) (0 ∷ 0 ∷ []) ∷ []
-  pub unmade : map (λ (ns : List ℕ). route-leaves 12 ns ten (lent 2) (lent 2))
+  pub no-path : route-leaves 12 paths (0xE0 ∷ []) [] (lent 3) ∷ route-leaves 12 (table []) ten [] (lent 3) ∷ [] ≡ each (lent 2) (left 0 [] [] (1 ∷ 0 ∷ 0 ∷ []))
+  pub no-room : route-leaves 12 paths ten (lent 1) (lent 3) ≡ left 2 [] (lent 1) (0 ∷ 0 ∷ 0 ∷ [])
+  -- 1 and 8 in their turn, 8 with damage 1 to 4; 10 for more entries than 32, an APID above 2,046, a destination above 255, the same pair twice, and a number past the entries
+  pub refused : route-leaves 6 paths ten (lent 2) (lent 3) ∷ route-leaves 4294967308 paths ten (lent 2) (lent 3) ∷ [] ≡ each (lent 2) (left 1 [] (lent 2) (0 ∷ 0 ∷ 0 ∷ []))
+  pub damaged : map (λ (p : List ℕ). route-leaves 12 paths p (lent 2) (lent 3)) torn ≡ map (λ (d : ℕ). left 8 [] (lent 2) (0 ∷ 0 ∷ d ∷ [])) (1 ∷ 2 ∷ 3 ∷ 4 ∷ [])
+  pub unmade : map (λ (ns : List ℕ). route-leaves 12 ns ten (lent 2) (lent 3))
       ((33 ∷ many 32 [])
       ∷ table (1 ∷ 2047 ∷ 0 ∷ [])
       ∷ table (1 ∷ 65541 ∷ 0 ∷ [])
@@ -157,23 +171,23 @@ pub record Relay : Type 0 where
       ∷ table (1 ∷ 5 ∷ 7 ∷ 0 ∷ 1 ∷ [])
       ∷ (0 ∷ replicate 63 0 ++ (256 ∷ []))
       ∷ [])
-      ≡ each (lent 10) (left 10 [] (lent 2) (0 ∷ 0 ∷ []))
+      ≡ each (lent 10) (left 10 [] (lent 2) (0 ∷ 0 ∷ 0 ∷ []))
 
 -- An array that is one short is refused by 2 before all else, and nothing is written.
 pub record Short : Type 0 where
-  pub packets : formed-leaves 6 ten [] ∷ wrap-leaves 6 0 0 [] (lent 2) [] ∷ unwrap-leaves 6 ten (lent 3) ∷ unit-leaves (lent 3) ten (lent 2) ∷ unit-leaves (lent 4) ten (lent 1) ∷ []
-      ≡ left 2 [] [] [] ∷ left 2 [] (lent 2) [] ∷ left 2 [] [] (lent 3) ∷ left 2 [] [] (lent 2) ∷ left 2 [] [] (lent 1) ∷ []
+  pub packets : formed-leaves 6 ten [] ∷ wrap-leaves 6 0 0 [] (lent 2) (lent 1) ∷ unwrap-leaves 6 ten (lent 4) ∷ unit-leaves (lent 4) ten (lent 2) ∷ unit-leaves (lent 5) ten (lent 1) ∷ []
+      ≡ left 2 [] [] [] ∷ left 2 [] (lent 2) (lent 1) ∷ left 2 [] [] (lent 4) ∷ left 2 [] [] (lent 2) ∷ left 2 [] [] (lent 1) ∷ []
   pub space : read-space-leaves [] (lent 7) ∷ write-space-leaves (lent 6) (lent 6) ∷ [] ≡ left 2 [] [] (lent 7) ∷ left 2 [] (lent 6) [] ∷ []
   -- of settings, of a record and of an answer
   pub mux : begin-leaves (lent 3)
       ∷ mux-leaves to-flush 1 flush-numbers (lent 5) (lent 4) (lent 2) (lent 1)
       ∷ mux-leaves to-flush 1 flush-numbers (lent 6) (lent 3) (lent 2) (lent 1)
       ∷ mux-leaves to-flush 1 flush-numbers (lent 6) (lent 4) (lent 2) []
-      ∷ mux-leaves (to-put []) 2 put-numbers (lent 6) (lent 4) (lent 2) (lent 1)
+      ∷ mux-leaves (to-put []) 3 put-numbers (lent 6) (lent 4) (lent 2) (lent 2)
       ∷ []
-      ≡ left 2 (lent 3) [] [] ∷ left 2 (lent 4) (lent 2) (lent 1) ∷ left 2 (lent 3) (lent 2) (lent 1) ∷ left 2 (lent 4) (lent 2) [] ∷ left 2 (lent 4) (lent 2) (lent 1) ∷ []
-  pub extractor : enter-leaves (lent 5) (lent 4) [] [] (lent 6) ∷ enter-leaves (lent 6) (lent 3) [] [] (lent 6) ∷ enter-leaves (lent 6) (lent 4) [] [] (lent 5) ∷ step-leaves (lent 6) (lent 4) (lent 2) [] (lent 3) ∷ show-leaves (lent 3) [] [] (lent 3) ∷ show-leaves (lent 4) [] [] (lent 2) ∷ []
-      ≡ left 2 (lent 4) [] (lent 6) ∷ left 2 (lent 3) [] (lent 6) ∷ left 2 (lent 4) [] (lent 5) ∷ left 2 (lent 4) (lent 2) (lent 3) ∷ left 2 [] [] (lent 3) ∷ left 2 [] [] (lent 2) ∷ []
+      ≡ left 2 (lent 3) [] [] ∷ left 2 (lent 4) (lent 2) (lent 1) ∷ left 2 (lent 3) (lent 2) (lent 1) ∷ left 2 (lent 4) (lent 2) [] ∷ left 2 (lent 4) (lent 2) (lent 2) ∷ []
+  pub extractor : enter-leaves (lent 5) (lent 4) [] [] (lent 7) ∷ enter-leaves (lent 6) (lent 3) [] [] (lent 7) ∷ enter-leaves (lent 6) (lent 4) [] [] (lent 6) ∷ step-leaves (lent 6) (lent 4) (lent 2) [] (lent 4) ∷ show-leaves (lent 4) [] [] (lent 3) ∷ show-leaves (lent 5) [] [] (lent 2) ∷ []
+      ≡ left 2 (lent 4) [] (lent 7) ∷ left 2 (lent 3) [] (lent 7) ∷ left 2 (lent 4) [] (lent 6) ∷ left 2 (lent 4) (lent 2) (lent 4) ∷ left 2 [] [] (lent 3) ∷ left 2 [] [] (lent 2) ∷ []
   pub judge : judge-leaves (lent 5) (lent 4) (lent 2) [] ∷ judge-leaves (lent 6) (lent 3) (lent 2) [] ∷ close-leaves (lent 6) (lent 4) [] (lent 1) ∷ []
       ≡ left 2 (lent 4) (lent 2) [] ∷ left 2 (lent 3) (lent 2) [] ∷ left 2 [] [] (lent 1) ∷ []
   pub bits : write-leaves (lent 4) (lent 1) [] 0 (lent 2) ∷ write-leaves (lent 5) [] [] 0 (lent 2) ∷ read-leaves (lent 4) (lent 3) [] (lent 6) ∷ read-leaves (lent 5) (lent 2) [] (lent 6) ∷ read-leaves (lent 5) (lent 3) [] (lent 5) ∷ []
@@ -181,8 +195,8 @@ pub record Short : Type 0 where
   -- a list that ends within an entry is short too
   pub relay : load-leaves (5 ∷ 256 ∷ 5 ∷ []) paths ∷ load-leaves (5 ∷ 256 ∷ []) (lent 64) ∷ []
       ≡ left 2 paths [] [] ∷ left 2 (lent 64) [] [] ∷ []
-  pub route : route-leaves 6 (lent 64) ten (lent 2) (lent 2) ∷ route-leaves 6 paths ten (lent 2) (lent 1) ∷ []
-      ≡ left 2 [] (lent 2) (lent 2) ∷ left 2 [] (lent 2) (lent 1) ∷ []
+  pub route : route-leaves 6 (lent 64) ten (lent 2) (lent 3) ∷ route-leaves 6 paths ten (lent 2) (lent 2) ∷ []
+      ≡ left 2 [] (lent 2) (lent 3) ∷ left 2 [] (lent 2) (lent 2) ∷ []
 
 -- Settings that cannot be are refused by 1, in every call that takes them: a spacecraft above 255, a channel above 62, a fill above 255 and a trailer's
 -- number above 1, however great; and all stays as it was.
@@ -209,25 +223,25 @@ bits-outside =
     ∷ []
 
 pub record Outside : Type 0 where
-  pub put : map (λ (s : List ℕ). mux-leaves (to-put seven) 2 put-numbers s (4 ∷ 0 ∷ 2047 ∷ 0 ∷ []) (lent 18) (lent 2)) outside
-      ≡ each outside (left 1 (4 ∷ 0 ∷ 2047 ∷ 0 ∷ []) (lent 18) (0 ∷ 0 ∷ []))
+  pub put : map (λ (s : List ℕ). mux-leaves (to-put seven) 3 put-numbers s (4 ∷ 0 ∷ 2047 ∷ 0 ∷ []) (lent 18) (lent 3)) outside
+      ≡ each outside (left 1 (4 ∷ 0 ∷ 2047 ∷ 0 ∷ []) (lent 18) (0 ∷ 0 ∷ 0 ∷ []))
   pub flush : map (λ (s : List ℕ). mux-leaves to-flush 1 flush-numbers s (4 ∷ 8 ∷ 0 ∷ 0 ∷ []) (lent 18) (lent 1)) outside
       ≡ each outside (left 1 (4 ∷ 8 ∷ 0 ∷ 0 ∷ []) (lent 18) (0 ∷ []))
   pub idle : map (λ (s : List ℕ). mux-leaves to-idle 0 no-numbers s (4 ∷ 0 ∷ 2047 ∷ 0 ∷ []) (lent 18) []) outside
       ≡ each outside (left 1 (4 ∷ 0 ∷ 2047 ∷ 0 ∷ []) (lent 18) [])
-  pub enter : map (λ (s : List ℕ). enter-leaves s (2 ∷ 0 ∷ 2 ∷ 0 ∷ []) store (frame 1 0x00 0x03 rest) (lent 6)) outside
-      ≡ each outside (left 1 (2 ∷ 0 ∷ 2 ∷ 0 ∷ []) [] (0 ∷ 0 ∷ 0 ∷ 0 ∷ 0 ∷ 0 ∷ []))
-  pub step : map (λ (s : List ℕ). step-leaves s (3 ∷ 1 ∷ 2 ∷ 0 ∷ []) store (frame 1 0x00 0x03 rest) (lent 4)) outside
-      ≡ each outside (left 1 (3 ∷ 1 ∷ 2 ∷ 0 ∷ []) store (0 ∷ 0 ∷ 0 ∷ 0 ∷ []))
+  pub enter : map (λ (s : List ℕ). enter-leaves s (2 ∷ 0 ∷ 2 ∷ 0 ∷ []) store (frame 1 0x00 0x03 rest) (lent 7)) outside
+      ≡ each outside (left 1 (2 ∷ 0 ∷ 2 ∷ 0 ∷ []) [] (0 ∷ 0 ∷ 0 ∷ 0 ∷ 0 ∷ 0 ∷ 0 ∷ []))
+  pub step : map (λ (s : List ℕ). step-leaves s (3 ∷ 1 ∷ 2 ∷ 0 ∷ []) store (frame 1 0x00 0x03 rest) (lent 5)) outside
+      ≡ each outside (left 1 (3 ∷ 1 ∷ 2 ∷ 0 ∷ []) store (0 ∷ 0 ∷ 0 ∷ 0 ∷ 0 ∷ []))
   pub judge : map (λ (s : List ℕ). judge-leaves s (1 ∷ 1 ∷ 0 ∷ 2 ∷ []) store (frame 1 0x00 0x03 rest)) outside ≡ each outside (left 1 (1 ∷ 1 ∷ 0 ∷ 2 ∷ []) store [])
   pub close : map (λ (s : List ℕ). close-leaves s (1 ∷ 1 ∷ 0 ∷ 2 ∷ []) store (lent 2)) outside ≡ each outside (left 1 [] [] (0 ∷ 0 ∷ []))
   pub write : map (λ (s : List ℕ). write-leaves s (4 ∷ []) [] 0 (lent 10)) bits-outside ≡ each bits-outside (left 1 (4 ∷ []) (lent 10) [])
   pub read : map (λ (s : List ℕ). read-leaves s (1 ∷ 2 ∷ 1 ∷ []) (frame 4 0x00 0x08 (lent 2)) (lent 6)) bits-outside
       ≡ each bits-outside (left 1 (1 ∷ 2 ∷ 1 ∷ []) [] (0 ∷ 0 ∷ 0 ∷ 0 ∷ 0 ∷ 0 ∷ []))
   -- a limit that cannot be; a protocol and an extension that are no octets; a field of a space packet's header that is too great, each in its turn
-  pub limit : formed-leaves 6 ten (lent 1) ∷ unwrap-leaves 6 six (lent 4) ∷ [] ≡ left 1 [] [] (0 ∷ []) ∷ left 1 [] [] (0 ∷ 0 ∷ 0 ∷ 0 ∷ []) ∷ []
-  pub wrap : wrap-leaves 12 258 0 (0xAA ∷ []) (lent 4) (lent 1) ∷ wrap-leaves 12 6 261 (0xAA ∷ []) (lent 6) (lent 1) ∷ []
-      ≡ left 1 [] (lent 4) (0 ∷ []) ∷ left 1 [] (lent 6) (0 ∷ []) ∷ []
+  pub limit : formed-leaves 6 ten (lent 1) ∷ unwrap-leaves 6 six (lent 5) ∷ [] ≡ left 1 [] [] (0 ∷ []) ∷ left 1 [] [] (0 ∷ 0 ∷ 0 ∷ 0 ∷ 0 ∷ []) ∷ []
+  pub wrap : wrap-leaves 12 258 0 (0xAA ∷ []) (lent 4) (lent 2) ∷ wrap-leaves 12 6 261 (0xAA ∷ []) (lent 6) (lent 2) ∷ []
+      ≡ left 1 [] (lent 4) (0 ∷ 0 ∷ []) ∷ left 1 [] (lent 6) (0 ∷ 0 ∷ []) ∷ []
   pub space : map (λ (h : List ℕ). write-space-leaves h (lent 7))
       ((65536 ∷ 1 ∷ 0 ∷ 5 ∷ 3 ∷ 9 ∷ 1 ∷ [])
       ∷ (0 ∷ 65537 ∷ 0 ∷ 5 ∷ 3 ∷ 9 ∷ 1 ∷ [])
@@ -289,10 +303,10 @@ unread =
 
 -- Each is refused by 10 and stays as it was.
 pub record Refused : Type 0 where
-  pub entered : map (λ (r : List ℕ). enter-leaves settings r store (frame 1 0x00 0x03 rest) (lent 6)) unmade
-      ≡ map (λ (r : List ℕ). left 10 r [] (0 ∷ 0 ∷ 0 ∷ 0 ∷ 0 ∷ 0 ∷ [])) unmade
-  pub stepped : map (λ (r : List ℕ). step-leaves settings r store (frame 1 0x00 0x03 rest) (lent 4)) unmade
-      ≡ map (λ (r : List ℕ). left 10 r store (0 ∷ 0 ∷ 0 ∷ 0 ∷ [])) unmade
+  pub entered : map (λ (r : List ℕ). enter-leaves settings r store (frame 1 0x00 0x03 rest) (lent 7)) unmade
+      ≡ map (λ (r : List ℕ). left 10 r [] (0 ∷ 0 ∷ 0 ∷ 0 ∷ 0 ∷ 0 ∷ 0 ∷ [])) unmade
+  pub stepped : map (λ (r : List ℕ). step-leaves settings r store (frame 1 0x00 0x03 rest) (lent 5)) unmade
+      ≡ map (λ (r : List ℕ). left 10 r store (0 ∷ 0 ∷ 0 ∷ 0 ∷ 0 ∷ [])) unmade
   pub judged : map (λ (r : List ℕ). judge-leaves settings r store (frame 1 0x00 0x03 rest)) unjudged ≡ map (λ (r : List ℕ). left 10 r store []) unjudged
   pub closed : map (λ (r : List ℕ). close-leaves settings r store (lent 2)) unjudged ≡ each unjudged (left 10 [] [] (0 ∷ 0 ∷ []))
   pub flushed : mux-leaves to-flush 1 flush-numbers settings (4294967296 ∷ 8 ∷ 0 ∷ 0 ∷ []) (lent 18) (lent 1)
@@ -307,15 +321,15 @@ pub record Refused : Type 0 where
 
 -- frames with a trailer: written when the zone is full, and until then as lent; refused by 13, by which nothing changes; a fault for the judge
 pub record Trailers : Type 0 where
-  pub begun : mux-leaves (to-put seven) 2 put-numbers settings-trailed (4 ∷ 0 ∷ 2047 ∷ 0 ∷ []) (lent 20) (lent 2)
-      ≡ left 0 (4 ∷ 7 ∷ 0 ∷ 0 ∷ []) (lent 8 ++ (seven ++ lent 5)) (0 ∷ 1 ∷ [])
+  pub begun : mux-leaves (to-put seven) 3 put-numbers settings-trailed (4 ∷ 0 ∷ 2047 ∷ 0 ∷ []) (lent 20) (lent 3)
+      ≡ left 0 (4 ∷ 7 ∷ 0 ∷ 0 ∷ []) (lent 8 ++ (seven ++ lent 5)) (0 ∷ 1 ∷ 0 ∷ [])
   pub flushed : mux-leaves to-flush 1 flush-numbers settings-trailed (4 ∷ 8 ∷ 0 ∷ 0 ∷ []) (lent 21) (lent 1)
       ≡ left 0 (5 ∷ 0 ∷ 2047 ∷ 0 ∷ []) (frame 4 0x00 0x00 (lent 8 ++ (0xE1 ∷ 0x02 ∷ 0x29 ∷ 0x56 ∷ 0xFF ∷ []))) (2 ∷ [])
   pub no-room : mux-leaves to-flush 1 flush-numbers settings-trailed (4 ∷ 8 ∷ 0 ∷ 0 ∷ []) (lent 19) (lent 1) ≡ left 2 (4 ∷ 8 ∷ 0 ∷ 0 ∷ []) (lent 19) (0 ∷ [])
-  pub entered : map (λ (low : ℕ). enter-leaves settings-trailed (2 ∷ 0 ∷ 2 ∷ 0 ∷ []) store (frame 1 0x00 0x03 (rest ++ (0x43 ∷ low ∷ []))) (lent 6)) (0x63 ∷ 0x62 ∷ [])
-      ≡ left 0 (3 ∷ 1 ∷ 2 ∷ 0 ∷ []) [] (1 ∷ 1 ∷ 0 ∷ 0 ∷ 0 ∷ 0 ∷ []) ∷ left 13 (2 ∷ 0 ∷ 2 ∷ 0 ∷ []) [] (0 ∷ 0 ∷ 0 ∷ 0 ∷ 0 ∷ 0 ∷ []) ∷ []
-  pub stepped : step-leaves settings-trailed (3 ∷ 1 ∷ 0 ∷ 3 ∷ []) store (frame 1 0x00 0x03 (rest ++ lent 2)) (lent 4)
-      ≡ left 0 (3 ∷ 1 ∷ 0 ∷ 10 ∷ []) store (2 ∷ 1 ∷ 11 ∷ 7 ∷ [])
+  pub entered : map (λ (low : ℕ). enter-leaves settings-trailed (2 ∷ 0 ∷ 2 ∷ 0 ∷ []) store (frame 1 0x00 0x03 (rest ++ (0x43 ∷ low ∷ []))) (lent 7)) (0x63 ∷ 0x62 ∷ [])
+      ≡ left 0 (3 ∷ 1 ∷ 2 ∷ 0 ∷ []) [] (1 ∷ 1 ∷ 0 ∷ 0 ∷ 0 ∷ 0 ∷ 0 ∷ []) ∷ left 13 (2 ∷ 0 ∷ 2 ∷ 0 ∷ []) [] (0 ∷ 0 ∷ 0 ∷ 0 ∷ 0 ∷ 0 ∷ 0 ∷ []) ∷ []
+  pub stepped : step-leaves settings-trailed (3 ∷ 1 ∷ 0 ∷ 3 ∷ []) store (frame 1 0x00 0x03 (rest ++ lent 2)) (lent 5)
+      ≡ left 0 (3 ∷ 1 ∷ 0 ∷ 10 ∷ []) store (2 ∷ 1 ∷ 11 ∷ 7 ∷ 0 ∷ [])
   pub judged : map (λ (low : ℕ). judge-leaves settings-trailed (1 ∷ 1 ∷ 0 ∷ 2 ∷ []) store (frame 1 0x00 0x03 (rest ++ (0x43 ∷ low ∷ [])))) (0x63 ∷ 0x62 ∷ [])
       ≡ left 0 (1 ∷ 2 ∷ 1 ∷ 0 ∷ []) (0xE9 ∷ 0x05 ∷ 0x11 ∷ 0x22 ∷ 0x33 ∷ lent 7) [] ∷ left 0 (2 ∷ 2 ∷ 1 ∷ 0 ∷ []) store [] ∷ []
   pub written : write-leaves bit-settings-trailed (4 ∷ []) (0xAB ∷ []) 8 (lent 13)

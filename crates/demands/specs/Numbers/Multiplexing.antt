@@ -74,7 +74,7 @@ pub record Refusals : Type 0 where
 
 -- an accepted call
 abbrev pub done : Bool → Bool → Mux → List ℕ → Answer
-done full taken m frame = record { accepted = true; refusal = 0; full = full; taken = taken; mux = m; frame = frame }
+done full taken m frame = record { accepted = true; refusal = 0; damage = 0; full = full; taken = taken; mux = m; frame = frame }
 
 -- twenty octets are lent, two more than a frame has
 abbrev pub calls : Mux → Call → Answer

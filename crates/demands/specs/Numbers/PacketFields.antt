@@ -12,23 +12,23 @@ use Rattle.wrapping.specs.Idle.{idle-packet, idle-packet-rows}
 
 -- a whole header: version, APID or protocol, whether it is idle, its length and the packet's
 abbrev pub whole : ℕ → ℕ → Bool → ℕ → ℕ → Reading
-whole version key idle size total = record { refusal = 0; outcome = 3; version = version; key = key; idle = idle; size = size; total = total }
+whole version key idle size total = record { refusal = 0; outcome = 3; version = version; key = key; idle = idle; size = size; total = total; damage = 0 }
 
--- a space packet and an encapsulation packet that are not idle; more octets are needed; damaged
+-- a space packet and an encapsulation packet that are not idle; more octets are needed; damaged, and how
 abbrev pub space : ℕ → ℕ → Reading
 space apid total = whole 0 apid false 6 total
 
 abbrev pub encap : ℕ → ℕ → ℕ → Reading
 encap protocol size total = whole 7 protocol false size total
 
-abbrev pub bare : ℕ → Reading
-bare outcome = record { refusal = 0; outcome = outcome; version = 0; key = 0; idle = false; size = 0; total = 0 }
+abbrev pub bare : ℕ → ℕ → Reading
+bare outcome damage = record { refusal = 0; outcome = outcome; version = 0; key = 0; idle = false; size = 0; total = 0; damage = damage }
 
 abbrev pub more : Reading
-more = bare 1
+more = bare 1 0
 
-abbrev pub damaged : Reading
-damaged = bare 2
+abbrev pub damaged : ℕ → Reading
+damaged damage = bare 2 damage
 
 -- at the greatest M
 abbrev pub read : List ℕ → Reading
@@ -44,27 +44,27 @@ pub record SpacePackets : Type 0 where
   pub others : map read ((0x10 ∷ replicate 5 0) ∷ (0x08 ∷ replicate 5 0) ∷ (0 ∷ 0 ∷ 0xC0 ∷ replicate 3 0) ∷ (0 ∷ 0 ∷ 0x3F ∷ 0xFF ∷ 0 ∷ 0 ∷ []) ∷ []) ≡ replicate 4 (space 0 7)
   -- five octets of the header are not enough; the total is at most M
   pub unfinished : read (replicate 5 0) ≡ more
-  pub limits : map (λ limit. reading limit (0 ∷ 0 ∷ 0 ∷ 0 ∷ 0x00 ∷ 0x01 ∷ [])) (7 ∷ 8 ∷ []) ≡ damaged ∷ space 0 8 ∷ []
-  pub pass-12 : reading 65541 (0 ∷ 0 ∷ 0 ∷ 0 ∷ 0xFF ∷ 0xFF ∷ []) ≡ damaged
+  pub limits : map (λ limit. reading limit (0 ∷ 0 ∷ 0 ∷ 0 ∷ 0x00 ∷ 0x01 ∷ [])) (7 ∷ 8 ∷ []) ≡ damaged 4 ∷ space 0 8 ∷ []
+  pub pass-12 : reading 65541 (0 ∷ 0 ∷ 0 ∷ 0 ∷ 0xFF ∷ 0xFF ∷ []) ≡ damaged 4
 
 pub record EncapsulationPackets : Type 0 where
   -- the protocol, and 0, which alone is idle; a header of one octet has no other
   pub protocols : map (λ o. read (o ∷ 0x02 ∷ [])) (0xE1 ∷ 0xE5 ∷ 0xF1 ∷ 0xFD ∷ []) ≡ whole 7 0 true 2 2 ∷ encap 1 2 2 ∷ encap 4 2 2 ∷ encap 7 2 2 ∷ []
-  pub one-octet : map (λ o. read (o ∷ [])) (0xE0 ∷ 0xE4 ∷ 0xF0 ∷ 0xFC ∷ []) ≡ whole 7 0 true 1 1 ∷ damaged ∷ damaged ∷ damaged ∷ []
+  pub one-octet : map (λ o. read (o ∷ [])) (0xE0 ∷ 0xE4 ∷ 0xF0 ∷ 0xFC ∷ []) ≡ whole 7 0 true 1 1 ∷ damaged 2 ∷ damaged 2 ∷ damaged 2 ∷ []
   -- the length in one octet, two and four; the greatest totals, and the highest bit of the longest, which passes every M
   pub lengths : map read
       ((0xE5 ∷ 0xFF ∷ []) ∷ (0xE6 ∷ 0 ∷ 0x01 ∷ 0x00 ∷ []) ∷ (0xE6 ∷ 0 ∷ 0xFF ∷ 0xFF ∷ []) ∷ (0xE7 ∷ 0 ∷ 0 ∷ 0 ∷ 0 ∷ 0 ∷ 0x01 ∷ 0x00 ∷ []) ∷ (0xE7 ∷ 0 ∷ 0 ∷ 0 ∷ 0 ∷ 1 ∷ 0x00 ∷ 0x06 ∷ []) ∷ (0xE7 ∷ 0 ∷ 0 ∷ 0 ∷ 0x80 ∷ 0 ∷ 0 ∷ 8 ∷ []) ∷ [])
-      ≡ encap 1 2 255 ∷ encap 1 4 256 ∷ encap 1 4 65535 ∷ encap 1 8 256 ∷ encap 1 8 65542 ∷ damaged ∷ []
-  pub past-the-limit : read (0xE7 ∷ 0 ∷ 0 ∷ 0 ∷ 0 ∷ 1 ∷ 0x00 ∷ 0x07 ∷ []) ≡ damaged
+      ≡ encap 1 2 255 ∷ encap 1 4 256 ∷ encap 1 4 65535 ∷ encap 1 8 256 ∷ encap 1 8 65542 ∷ damaged 4 ∷ []
+  pub past-the-limit : read (0xE7 ∷ 0 ∷ 0 ∷ 0 ∷ 0 ∷ 1 ∷ 0x00 ∷ 0x07 ∷ []) ≡ damaged 4
   -- user, extension and reserved bits do not count
   pub others : map read ((0xE6 ∷ 0xF0 ∷ 0 ∷ 4 ∷ []) ∷ (0xE6 ∷ 0x0F ∷ 0 ∷ 4 ∷ []) ∷ (0xE7 ∷ 0xFF ∷ 0 ∷ 0 ∷ 0 ∷ 0 ∷ 0 ∷ 8 ∷ []) ∷ (0xE7 ∷ 0 ∷ 0xFF ∷ 0xFF ∷ 0 ∷ 0 ∷ 0 ∷ 8 ∷ []) ∷ [])
       ≡ encap 1 4 4 ∷ encap 1 4 4 ∷ encap 1 8 8 ∷ encap 1 8 8 ∷ []
   -- a length is at least its header's
-  pub below : map read ((0xE5 ∷ 1 ∷ []) ∷ (0xE6 ∷ 0 ∷ 0 ∷ 3 ∷ []) ∷ (0xE7 ∷ 0 ∷ 0 ∷ 0 ∷ 0 ∷ 0 ∷ 0 ∷ 7 ∷ []) ∷ []) ≡ replicate 3 damaged
+  pub below : map read ((0xE5 ∷ 1 ∷ []) ∷ (0xE6 ∷ 0 ∷ 0 ∷ 3 ∷ []) ∷ (0xE7 ∷ 0 ∷ 0 ∷ 0 ∷ 0 ∷ 0 ∷ 0 ∷ 7 ∷ []) ∷ []) ≡ replicate 3 (damaged 3)
   pub unfinished : map read ([] ∷ (0xE5 ∷ []) ∷ (0xE6 ∷ 0 ∷ 0 ∷ []) ∷ (0xE7 ∷ 0 ∷ 0 ∷ 0 ∷ 0 ∷ 0 ∷ 0 ∷ []) ∷ []) ≡ replicate 4 more
-  pub limits : map (λ limit. reading limit (0xE5 ∷ 12 ∷ [])) (11 ∷ 12 ∷ []) ≡ damaged ∷ encap 1 2 12 ∷ []
+  pub limits : map (λ limit. reading limit (0xE5 ∷ 12 ∷ [])) (11 ∷ 12 ∷ []) ≡ damaged 4 ∷ encap 1 2 12 ∷ []
   -- versions 001 to 110 are damage as soon as the first octet is seen
-  pub versions : map (λ o. read (o ∷ [])) (0x20 ∷ 0x40 ∷ 0x60 ∷ 0x80 ∷ 0xA0 ∷ 0xC0 ∷ []) ≡ replicate 6 damaged
+  pub versions : map (λ o. read (o ∷ [])) (0x20 ∷ 0x40 ∷ 0x60 ∷ 0x80 ∷ 0xA0 ∷ 0xC0 ∷ []) ≡ replicate 6 (damaged 1)
   -- a lent packet has exactly its stated length
   pub stated : map (well-formed 12) ((0xE5 ∷ 3 ∷ []) ∷ (0xE5 ∷ 3 ∷ 0 ∷ []) ∷ (0xE5 ∷ 3 ∷ 0 ∷ 0 ∷ []) ∷ (0xE5 ∷ 2 ∷ []) ∷ []) ≡ false ∷ true ∷ false ∷ true ∷ []
 
@@ -74,7 +74,8 @@ pub record Parts : Type 0 where
   pub unfinished : map (look 12) ([] ∷ replicate 5 0 ∷ (0xE5 ∷ []) ∷ (0xE6 ∷ 0 ∷ 0 ∷ []) ∷ (0xE7 ∷ replicate 6 0) ∷ []) ≡ replicate 5 packet.more
   pub totals : map (look 12) ((0 ∷ 0 ∷ 0 ∷ 0 ∷ 0 ∷ 5 ∷ []) ∷ (0xE0 ∷ []) ∷ (0xE5 ∷ 12 ∷ []) ∷ (0xE6 ∷ 0 ∷ 0 ∷ 4 ∷ []) ∷ (0xE7 ∷ 0 ∷ 0 ∷ 0 ∷ 0 ∷ 0 ∷ 0 ∷ 8 ∷ []) ∷ [])
       ≡ packet.whole 12 ∷ packet.whole 1 ∷ packet.whole 12 ∷ packet.whole 4 ∷ packet.whole 8 ∷ []
-  pub damaged : map (look 12) ((0 ∷ 0 ∷ 0 ∷ 0 ∷ 0 ∷ 6 ∷ []) ∷ (0xE4 ∷ []) ∷ (0xE5 ∷ 13 ∷ []) ∷ (0xE5 ∷ 1 ∷ []) ∷ (0x20 ∷ []) ∷ (0xC0 ∷ []) ∷ []) ≡ replicate 6 packet.damaged
+  pub damaged : map (look 12) ((0 ∷ 0 ∷ 0 ∷ 0 ∷ 0 ∷ 6 ∷ []) ∷ (0xE4 ∷ []) ∷ (0xE5 ∷ 13 ∷ []) ∷ (0xE5 ∷ 1 ∷ []) ∷ (0x20 ∷ []) ∷ (0xC0 ∷ []) ∷ [])
+      ≡ map packet.damaged (4 ∷ 2 ∷ 4 ∷ 3 ∷ 1 ∷ 1 ∷ [])
   -- APID 2,047 and protocol 0
   pub idle : map is-idle ((0x07 ∷ 0xFF ∷ []) ∷ (0x1F ∷ 0xFF ∷ []) ∷ (0xE0 ∷ []) ∷ (0xE3 ∷ []) ∷ []) ≡ replicate 4 true
   pub not-idle : map is-idle ((0x07 ∷ 0xFE ∷ []) ∷ (0x00 ∷ 0x00 ∷ []) ∷ (0xE5 ∷ []) ∷ (0xFD ∷ []) ∷ []) ≡ replicate 4 false

@@ -75,13 +75,17 @@ pub record Tables : Type 0 where
 
 -- what routing answers
 abbrev pub sends : ℕ → List ℕ → Routing
-sends count output = record { refusal = 0; outcome = 2; count = count; output = output }
+sends count output = record { refusal = 0; damage = 0; outcome = 2; count = count; output = output }
 
 abbrev pub nowhere : List ℕ → Routing
-nowhere output = record { refusal = 0; outcome = 1; count = 0; output = output }
+nowhere output = record { refusal = 0; damage = 0; outcome = 1; count = 0; output = output }
 
 abbrev pub refuses : ℕ → List ℕ → Routing
-refuses n output = record { refusal = n; outcome = 0; count = 0; output = output }
+refuses n output = record { refusal = n; damage = 0; outcome = 0; count = 0; output = output }
+
+-- by 8, with damage
+abbrev pub hurt : ℕ → List ℕ → Routing
+hurt damage output = record { refusal = 8; damage = damage; outcome = 0; count = 0; output = output }
 
 -- a space packet of seven octets by the two octets of its first half word
 abbrev pub packet : ℕ → ℕ → List ℕ
@@ -104,7 +108,7 @@ pub record Ways : Type 0 where
       ≡ refuses 1 (lent 3) ∷ sends 3 (5 ∷ 0 ∷ 1 ∷ []) ∷ sends 3 (5 ∷ 0 ∷ 1 ∷ []) ∷ refuses 1 (lent 3) ∷ []
   pub unmade : routing 12 (table 1 (entry 2047 0 ∷ nothing 31)) (packet 0x07 0xFF) (lent 1) ≡ refuses 10 (lent 1)
   pub malformed : map (λ (p : List ℕ). routing 9 relay p (lent 3)) ([] ∷ packet 0x20 0x05 ∷ (seven ++ (0 ∷ [])) ∷ ten ∷ (0xE9 ∷ 0x03 ∷ []) ∷ (0xE9 ∷ 0x01 ∷ []) ∷ (0xEC ∷ []) ∷ [])
-      ≡ each (lent 7) (refuses 8 (lent 3))
+      ≡ map (λ d. hurt d (lent 3)) (0 ∷ 1 ∷ 0 ∷ 4 ∷ 0 ∷ 3 ∷ 2 ∷ [])
   pub no-room : routing 12 relay ten (lent 2) ≡ refuses 2 (lent 2)
   -- the order: all that is wrong at once, and then one thing after another put right
   pub order : routing 6 (table 33 six) (seven ++ (0 ∷ [])) [] .refusal
@@ -114,4 +118,4 @@ pub record Ways : Type 0 where
       ∷ []
       ≡ 1 ∷ 10 ∷ 8 ∷ 2 ∷ []
   -- what each case of the answer means
-  pub cases : map (λ (r : Routed). routes r (7 ∷ [])) (Routed.Refused 8 ∷ Routed.NoPath ∷ Routed.Path 3 ∷ []) ≡ refuses 8 (7 ∷ []) ∷ nowhere (7 ∷ []) ∷ sends 3 (7 ∷ []) ∷ []
+  pub cases : map (λ (r : Routed). routes r (7 ∷ [])) (Routed.Refused 8 4 ∷ Routed.Refused 2 0 ∷ Routed.NoPath ∷ Routed.Path 3 ∷ []) ≡ hurt 4 (7 ∷ []) ∷ refuses 2 (7 ∷ []) ∷ nowhere (7 ∷ []) ∷ sends 3 (7 ∷ []) ∷ []

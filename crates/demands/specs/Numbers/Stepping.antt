@@ -36,7 +36,12 @@ pub record Refusals : Type 0 where
 -- an answer: 1 a packet, 2 an idle packet, 3 damaged, 4 spent; 1 in the frame, 2 in the store; start and size; the part; and what is left
 abbrev pub says : ℕ → ℕ → ℕ → ℕ → List ℕ → Extractor → List ℕ → StepSaid
 says outcome place start size part next store =
-    record { answer = record { refusal = 0; outcome = outcome; place = place; start = start; size = size; part = part }; next = next; store = store }
+    record { answer = record { refusal = 0; outcome = outcome; place = place; start = start; size = size; part = part; damage = 0 }; next = next; store = store }
+
+-- a step that finds damage
+abbrev pub torn : ℕ → Extractor → List ℕ → StepSaid
+torn damage next store =
+    record { answer = record { refusal = 0; outcome = 3; place = 0; start = 0; size = 0; part = []; damage = damage }; next = next; store = store }
 
 -- the zone of the second sample frame: the end of a packet of five octets, and an idle packet of seven
 abbrev pub second : List ℕ
@@ -58,10 +63,10 @@ pub record Events : Type 0 where
   pub in-frame : steps (Walking 1 0 3) [] ≡ says 2 1 11 7 (0xE1 ∷ 0x07 ∷ 0x55 ∷ 0x55 ∷ 0x55 ∷ 0x55 ∷ 0x55 ∷ []) (Walking 1 0 10) (lent 12)
   pub spent : steps (Walking 1 0 10) [] ≡ says 4 0 0 0 [] (InStep 1 0) (lent 12)
   -- 33 is version 001: damaged, then spent and out of step; so is a packet of 13 octets, but one of 12 is not
-  pub damaged : steps (Walking 1 0 2) [] ≡ says 3 0 0 0 [] (Leaving 1) (lent 12)
+  pub damaged : steps (Walking 1 0 2) [] ≡ torn 1 (Leaving 1) (lent 12)
   pub lengths : map finds ((0xE5 ∷ 13 ∷ lent 5) ∷ (0xE5 ∷ 12 ∷ lent 5) ∷ []) ≡ 3 ∷ 4 ∷ []
   -- held octets whose header another frame damages: damaged too, and the store stays
-  pub damaged-held : step-answer small (Walking 1 1 0) (0xE9 ∷ lent 11) (frame 1 0 3 (0x01 ∷ lent 9)) ≡ says 3 0 0 0 [] (Leaving 1) (0xE9 ∷ lent 11)
+  pub damaged-held : step-answer small (Walking 1 1 0) (0xE9 ∷ lent 11) (frame 1 0 3 (0x01 ∷ lent 9)) ≡ torn 3 (Leaving 1) (0xE9 ∷ lent 11)
   pub left : steps (Leaving 1) [] ≡ says 4 0 0 0 [] (Astray 1) (lent 12)
   -- unfinished octets go behind those held
   pub appended : step-answer least (Walking 1 1 0) (0x00 ∷ lent 7) (frame 1 0x07 0xFF (0x05 ∷ []))

@@ -108,7 +108,7 @@ pub record Outcomes : Type 0 where
       ≡ replicate 4 (2 ∷ 2 ∷ 0 ∷ [])
   -- entered with the right one; refused with another, by which the record stays; and a step does not ask for it
   pub entered : map (λ low. enter-answer small-trailed (InStep 6 0) (lent 12) (seventh 0x9D low)) (0xD1 ∷ 0xD0 ∷ [])
-      ≡ record { answer = record { refusal = 0; outcome = 1; count = 7; replay = 0; lost = 0; dropped = 0; reason = 0 }; next = Walking 7 0 0 }
+      ≡ record { answer = record { refusal = 0; outcome = 1; count = 7; replay = 0; lost = 0; dropped = 0; reason = 0; damage = 0 }; next = Walking 7 0 0 }
       ∷ record { answer = refused-entry 13; next = InStep 6 0 }
       ∷ []
   pub stepped : map (λ low. step-answer small-trailed (Walking 7 0 0) (lent 12) (seventh 0x9D low) .answer .refusal) (0xD1 ∷ 0xD0 ∷ []) ≡ 0 ∷ 0 ∷ []

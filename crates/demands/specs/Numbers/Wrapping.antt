@@ -43,8 +43,8 @@ wraps protocol extension n = take 8 (wrapping 65542 protocol extension (replicat
 
 pub record Wrapped : Type 0 where
   -- what is written: the packet and nothing else
-  pub two : wrapping 12 2 0 (0xAA ∷ 0xBB ∷ []) (lent 5) ≡ record { accepted = true; refusal = 0; total = 4; output = 0xE9 ∷ 4 ∷ 0xAA ∷ 0xBB ∷ 0xFF ∷ [] }
-  pub refused : wrapping 12 2 0 [] (lent 2) ≡ record { accepted = false; refusal = 8; total = 0; output = lent 2 }
+  pub two : wrapping 12 2 0 (0xAA ∷ 0xBB ∷ []) (lent 5) ≡ record { accepted = true; refusal = 0; damage = 0; total = 4; output = 0xE9 ∷ 4 ∷ 0xAA ∷ 0xBB ∷ 0xFF ∷ [] }
+  pub refused : wrapping 12 2 0 [] (lent 2) ≡ record { accepted = false; refusal = 8; damage = 0; total = 0; output = lent 2 }
   -- protocol and extension at their places; protocol 6 has four octets at least, and user is written 0
   pub protocols : map (λ protocol. wraps protocol 0 6) (1 ∷ 4 ∷ 7 ∷ []) ≡ map (λ o. o ∷ 8 ∷ replicate 6 0xAA) (0xE5 ∷ 0xF1 ∷ 0xFD ∷ [])
   pub extensions : map (λ extension. wraps 6 extension 4) (0 ∷ 1 ∷ 8 ∷ 15 ∷ []) ≡ map (λ o. 0xFA ∷ o ∷ 0 ∷ 8 ∷ replicate 4 0xAA) (0 ∷ 1 ∷ 8 ∷ 15 ∷ [])
@@ -55,7 +55,7 @@ pub record Wrapped : Type 0 where
 
 -- what unwrapping answers: protocol, extension, where the unit starts and how long it is
 abbrev pub says : ℕ → ℕ → ℕ → ℕ → Unwrapping
-says protocol extension start size = record { accepted = true; refusal = 0; protocol = protocol; extension = extension; start = start; size = size }
+says protocol extension start size = record { accepted = true; refusal = 0; damage = 0; protocol = protocol; extension = extension; start = start; size = size }
 
 pub record Units : Type 0 where
   pub each : map (unwrapping 12)
@@ -68,5 +68,5 @@ pub record Units : Type 0 where
       ∷ [])
       ≡ says 0 0 1 0 ∷ says 2 0 2 2 ∷ says 2 0 4 1 ∷ says 6 1 4 1 ∷ says 6 8 4 1 ∷ says 6 15 8 1 ∷ []
   -- the part of the packet that holds the unit; none where it would run past the end, or after a refusal
-  pub part : map (unit-part (0xE9 ∷ 4 ∷ 0xAA ∷ 0xBB ∷ [])) (Unwrapped.Unit 2 0 2 2 ∷ Unwrapped.Unit 2 0 2 1 ∷ Unwrapped.Unit 2 0 2 3 ∷ Unwrapped.Refused 8 ∷ [])
-      ≡ (0xAA ∷ 0xBB ∷ []) ∷ (0xAA ∷ []) ∷ [] ∷ [] ∷ []
+  pub part : map (unit-part (0xE9 ∷ 4 ∷ 0xAA ∷ 0xBB ∷ [])) (Unwrapped.Unit 2 0 2 2 ∷ Unwrapped.Unit 2 0 2 1 ∷ Unwrapped.Unit 2 0 2 3 ∷ Unwrapped.Refused 8 0 ∷ Unwrapped.Refused 8 4 ∷ [])
+      ≡ (0xAA ∷ 0xBB ∷ []) ∷ (0xAA ∷ []) ∷ [] ∷ [] ∷ [] ∷ []

@@ -41,14 +41,15 @@ read-entry refusal answer = record {
   lost = getD answer 3 0;
   dropped = getD answer 4 0;
   reason = getD answer 5 0;
+  damage = getD answer 6 0;
 }
 
 -- after `itz_extractor_step`: [0] is 1 for a packet, 2 for an idle one, 3 for damaged and 4 for spent; [1] is 1 where the packet
--- lies in the frame and 2 where it lies in the store; [2] is its start, and [3] its size
+-- lies in the frame and 2 where it lies in the store; [2] is its start, and [3] its size; [4] is the damage
 unfoldable pub read-step : ℕ → List ℕ → Found
 read-step refusal answer =
     pick (eqb (getD answer 0 0) 4) Spent
-    (pick (eqb (getD answer 0 0) 3) Damaged
+    (pick (eqb (getD answer 0 0) 3) (Damaged (getD answer 4 0))
     (pick (eqb (getD answer 1 0) 1) (InFrame (getD answer 2 0) (getD answer 3 0) (eqb (getD answer 0 0) 2))
     (pick (eqb (getD answer 1 0) 2) (InStore (getD answer 3 0) (eqb (getD answer 0 0) 2))
     (Refused refusal))))

@@ -55,7 +55,7 @@ left-by settings lend x l answer full =
 -- `itz_mux_put`, `itz_mux_flush` and `itz_mux_idle`; the last has no answer, and writes a frame where it returned 0
 unfoldable pub after-in-c : List ℕ → (ℕ → List ℕ) → SendingInC → Call → SendingInC
 after-in-c settings lend x (to-put p) =
-    let l : Left = mux-leaves (to-put p) 2 put-numbers settings (x .numbers) (x .frame) (x .answer) in
+    let l : Left = mux-leaves (to-put p) 3 put-numbers settings (x .numbers) (x .frame) (x .answer) in
     left-by settings lend x l (l .answer) (says-full (l .answer))
 after-in-c settings lend x to-flush =
     let l : Left = mux-leaves to-flush 1 flush-numbers settings (x .numbers) (x .frame) (x .answer) in

@@ -109,7 +109,7 @@ pub record OfExports : Type 0 where
       (begin-leaves (now array))
   pub mux-put : (κs : Lfts 5) (settings array packet frame answer : Slice)
       → Is (leaving Each (mux-put-fn.Pre κs (settings, (array, (packet, (frame, (answer, tt)))))) (λ o. mux-put-fn.Post κs (settings, (array, (packet, (frame, (answer, tt))))) (o .refusal) (settings, (at-last array (o .numbers), (packet, (at-last frame (o .octets), (at-last answer (o .answer), tt)))))))
-      (mux-leaves (to-put (now packet)) 2 put-numbers (now settings) (now array) (now frame) (now answer))
+      (mux-leaves (to-put (now packet)) 3 put-numbers (now settings) (now array) (now frame) (now answer))
   pub mux-flush : (κs : Lfts 4) (settings array frame answer : Slice)
       → Is (leaving Each (mux-flush-fn.Pre κs (settings, (array, (frame, (answer, tt))))) (λ o. mux-flush-fn.Post κs (settings, (array, (frame, (answer, tt)))) (o .refusal) (settings, (at-last array (o .numbers), (at-last frame (o .octets), (at-last answer (o .answer), tt))))))
       (mux-leaves to-flush 1 flush-numbers (now settings) (now array) (now frame) (now answer))

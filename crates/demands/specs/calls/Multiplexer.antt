@@ -6,7 +6,7 @@ use contract.Lifetimes.{Lfts}
 use denote.Ref.{now, at-last}
 use Rattle.frames.specs.declared.Settings.{Settings}
 use Rattle.multiplexer.specs.Multiplex.{begun}
-use Rattle.multiplexer.specs.Calls.{Call, to-put, to-flush, to-idle, call-rows, refusing, answers, answer}
+use Rattle.multiplexer.specs.Calls.{Call, to-put, to-flush, to-idle, call-rows, call-damage, refusing, answers, answer}
 use Rattle.multiplexer.specs.Reach.{KeepsToTheTest, ReachesAll}
 use Rattle.multiplexer.specs.declared.Mux.{Mux}
 use Rattle.multiplexer.specs.declared.Reply.{Reply}
@@ -19,7 +19,7 @@ use Rattle.demands.specs.Promises.{Slice, Left, Contract, as-read, Is, P
 -- a call with its rows, its answer and the frame that it leaves
 abbrev pub Answers : Contract (Left Reply) → Settings → Mux → Call → List ℕ → Type 0
 Answers c s m call frame =
-    Promised c (answer s m call frame) (call-rows s m call (length frame)) (λ o. answers (o .answer) (o .lent)) (λ a. a .refusal) (λ n. refusing n m frame)
+    Promised c (answer s m call frame) (call-rows s m call (length frame)) (λ o. answers (o .answer) (o .lent)) (λ a. a .refusal) (λ n. refusing n (call-damage s call n) m frame)
 
 -- the first record, put, flush and idle zone; the records that they hand back pass the check for refusal 10, and it is exact
 pub record OfMultiplexer : Type 0 where

@@ -4,6 +4,7 @@ use mathlib.Core.List.{List}
 use lib.ListN.{length, take}
 use contract.Lifetimes.{Lfts}
 use denote.Ref.{now, at-last}
+use Rattle.packets.specs.Packet.{carried}
 use Rattle.relay.specs.Table.{empty, load-rows, loading}
 use Rattle.relay.specs.Route.{route-rows, refused, routing, routes}
 use Rattle.relay.specs.Laws.{Relays}
@@ -26,5 +27,5 @@ pub record OfRelay : Type 0 where
       → Promised (as-read (route-fn.Pre κs (limit, (t, (p, (out, tt)))))
       (λ (o : Left Routed). route-fn.Post κs (limit, (t, (p, (out, tt)))) (o .answer) (limit, (t, (p, (at-last out (o .lent), tt))))))
       (routing limit t (now p) (now out)) (route-rows limit t (now p) (length (now out))) (λ o. routes (o .answer) (o .lent)) (λ a. a .refusal)
-      (λ n. refused n (now out))
+      (λ n. refused n (carried n limit (now p)) (now out))
   pub keeps : Relays

@@ -22,7 +22,7 @@ pub record OfWrapping : Type 0 where
   pub wrap : (κs : Lfts 2) (limit protocol extension : ℕ) (unit out : Slice)
       → Promised (wrap-contract κs limit protocol extension unit out) (wrapping limit protocol extension (now unit) (now out))
       (wrap-rows limit protocol extension (length (now unit)) (wrapped-total protocol (length (now unit))) (length (now out)))
-      (λ o. wraps (o .answer) (o .lent)) (λ a. a .refusal) (λ n. record { accepted = false; refusal = n; total = 0; output = now out })
+      (λ o. wraps (o .answer) (o .lent)) (λ a. a .refusal) (λ n. record { accepted = false; refusal = n; damage = 0; total = 0; output = now out })
   pub write-idle : (κs : Lfts 1) (out : Slice) (at r fill : ℕ)
       → Writes (as-read (write-idle-fn.Pre κs (out, (at, (r, (fill, tt)))))
       (λ o. write-idle-fn.Post κs (out, (at, (r, (fill, tt)))) (o .answer) (at-last out (o .lent), (at, (r, (fill, tt))))))
