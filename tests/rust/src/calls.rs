@@ -3,32 +3,35 @@
 //! Settings, records and answers are arrays of numbers; include/itzahuemo.h says
 //! what each entry means. [`Reference`] answers the calls by the rules of
 //! [`crate::reference`]; with the feature `library`, the library does so too.
+//!
+//! The last number of an answer that speaks of headers is their damage, 1 to 4,
+//! or 0 where there is none. It alone may be there when the call is refused.
 
 use crate::reference::bitstream::{self, Reader, Writer};
 use crate::reference::extractor::{self, Part, Step};
 use crate::reference::frame::{Settings, HEAD};
 use crate::reference::judge::{self, Verdict};
 use crate::reference::multiplexer;
-use crate::reference::packet::{self, Kind, Look};
+use crate::reference::packet::{self, Damage, Kind, Look};
 use crate::reference::relay::{self, Entry, Table};
 use crate::reference::{space, wrap, Refusal};
 
 /// Entries of each array.
 pub const SETTINGS: usize = 6;
 pub const BIT_SETTINGS: usize = 5;
-pub const HEADER: usize = 6;
+pub const HEADER: usize = 7;
 pub const FORMED: usize = 1;
-pub const WRAPPED: usize = 1;
-pub const UNWRAPPED: usize = 4;
+pub const WRAPPED: usize = 2;
+pub const UNWRAPPED: usize = 5;
 pub const UNIT: usize = 2;
 pub const SPACE_READ: usize = 8;
 pub const SPACE_HEADER: usize = 7;
 pub const MUX: usize = 4;
-pub const PUT: usize = 2;
+pub const PUT: usize = 3;
 pub const FLUSH: usize = 1;
 pub const EXTRACTOR: usize = 4;
-pub const ENTERED: usize = 6;
-pub const STEP: usize = 4;
+pub const ENTERED: usize = 7;
+pub const STEP: usize = 5;
 pub const SHOWN: usize = 3;
 pub const JUDGE: usize = 4;
 pub const VERDICT: usize = 2;
@@ -36,7 +39,7 @@ pub const BIT_WRITER: usize = 1;
 pub const BIT_READER: usize = 3;
 pub const BITS: usize = 6;
 pub const RELAY: usize = 65;
-pub const ROUTED: usize = 2;
+pub const ROUTED: usize = 3;
 
 /// Every call of include/itzahuemo.h, in the header's order: its name without `itz_` and what it is
 /// lent. The trait, the library's declarations and all that only forwards a call are made from this
@@ -106,15 +109,15 @@ impl Calls for Reference {
     fn read_header(&self, limit: u64, octets: &[u8], answer: &mut [u64]) -> u64 {
         answered::<HEADER>(answer, || {
             Ok(match packet::read_header(number(limit)?, octets)? {
-                Look::Cut => [1, 0, 0, 0, 0, 0],
-                Look::Damaged => [2, 0, 0, 0, 0, 0],
+                Look::Cut => [1, 0, 0, 0, 0, 0, 0],
+                Look::Damaged(damage) => [2, 0, 0, 0, 0, 0, damage.number()],
                 Look::Whole(header) => {
                     let (kind, key) = match header.kind {
                         Kind::Space { apid } => (1, apid.into()),
                         Kind::Encapsulation { protocol } => (2, protocol.into()),
                     };
                     let idle = header.kind.is_idle().into();
-                    [3, kind, idle, key, header.length as u64, header.total as u64]
+                    [3, kind, idle, key, header.length as u64, header.total as u64, 0]
                 }
             })
         })
@@ -141,7 +144,7 @@ impl Calls for Reference {
         answered::<WRAPPED>(answer, || {
             let (protocol, extension) = (number(protocol)?, number(extension)?);
             let total = wrap::wrap(number(limit)?, protocol, extension, data, packet)?;
-            Ok([total as u64])
+            Ok([total as u64, 0])
         })
     }
 
@@ -151,13 +154,13 @@ impl Calls for Reference {
             let size = unwrapped.data.len();
             let start = packet.len() - size;
             let (protocol, extension) = (unwrapped.protocol, unwrapped.extension);
-            Ok([protocol.into(), extension.into(), start as u64, size as u64])
+            Ok([protocol.into(), extension.into(), start as u64, size as u64, 0])
         })
     }
 
     fn unit_part(&self, unwrapped: &[u64], packet: &[u8], answer: &mut [u64]) -> u64 {
         match front(unwrapped) {
-            Some(&[_, _, start, size]) => answered::<UNIT>(answer, || {
+            Some(&[_, _, start, size, _]) => answered::<UNIT>(answer, || {
                 Ok(if lies_in(packet, start, size) { [start, size] } else { [0; UNIT] })
             }),
             None => Refusal::Room.number(),
@@ -207,7 +210,7 @@ impl Calls for Reference {
             let mut state = read_mux(record);
             let put = multiplexer::put(&settings, &mut state, packet, frame)?;
             *record = mux_numbers(&state);
-            Ok([put.full.into(), put.taken.into()])
+            Ok([put.full.into(), put.taken.into(), 0])
         })
     }
 
@@ -268,13 +271,13 @@ impl Calls for Reference {
             let step = extractor::step(&settings, &mut state, store, frame)?;
             *record = extractor_numbers(&state);
             Ok(match step {
-                Step::Spent => [4, 0, 0, 0],
-                Step::Damaged => [3, 0, 0, 0],
+                Step::Spent => [4, 0, 0, 0, 0],
+                Step::Damaged(damage) => [3, 0, 0, 0, damage.number()],
                 Step::Packet { kind, part } => {
                     let what = if kind.is_idle() { 2 } else { 1 };
                     match part {
-                        Part::Frame { start, size } => [what, 1, start as u64, size as u64],
-                        Part::Store { size } => [what, 2, 0, size as u64],
+                        Part::Frame { start, size } => [what, 1, start as u64, size as u64, 0],
+                        Part::Store { size } => [what, 2, 0, size as u64, 0],
                     }
                 }
             })
@@ -283,7 +286,7 @@ impl Calls for Reference {
 
     fn show(&self, step: &[u64], frame: &[u8], store: &[u8], answer: &mut [u64]) -> u64 {
         match front(step) {
-            Some(&[_, place, start, size]) => answered::<SHOWN>(answer, || {
+            Some(&[_, place, start, size, _]) => answered::<SHOWN>(answer, || {
                 let there = match place {
                     1 => lies_in(frame, start, size),
                     2 => lies_in(store, start, size),
@@ -396,15 +399,17 @@ impl Calls for Reference {
             Some(table) => answered::<ROUTED>(answer, || {
                 let table = read_table(table);
                 let count = relay::route(number(limit)?, &table, packet, destinations)?;
-                Ok([if count == 0 { 1 } else { 2 }, count as u64])
+                Ok([if count == 0 { 1 } else { 2 }, count as u64, 0])
             }),
             None => Refusal::Room.number(),
         }
     }
 }
 
-/// Fills the answer: with what the call says, or with zeros when it is refused.
-/// An answer array that is too short is refused before that and left alone.
+/// Fills the answer: with what the call says, or with zeros when it is refused,
+/// but for the damage that the refusal names. Only calls whose answer has a number
+/// for it can be refused so. An answer array that is too short is refused before
+/// that and left alone.
 fn answered<const A: usize>(
     answer: &mut [u64],
     call: impl FnOnce() -> Result<[u64; A], Refusal>,
@@ -420,6 +425,9 @@ fn answered<const A: usize>(
         }
         Err(refusal) => {
             *answer = [0; A];
+            if let (Some(last), Some(damage)) = (answer.last_mut(), refusal.damage()) {
+                *last = damage.number();
+            }
             refusal.number()
         }
     }
@@ -551,7 +559,8 @@ fn extractor_numbers(record: &extractor::Record) -> [u64; EXTRACTOR] {
 
 pub(crate) fn entered_numbers(entered: &extractor::Entered) -> [u64; ENTERED] {
     let extractor::Entered { count, replay, lost, dropped, reason } = *entered;
-    [1, count.into(), replay.into(), lost.into(), dropped as u64, reason as u64]
+    let damage = reason.damage().map_or(0, Damage::number);
+    [1, count.into(), replay.into(), lost.into(), dropped as u64, reason.number(), damage]
 }
 
 /// Numbers that stand for no record are read as one that no call leaves.

@@ -23,7 +23,7 @@ impl Heard {
 /// An extractor of one channel.
 pub trait Hearing {
     /// All that is heard of the next frame: one number that refuses it, or the numbers of its entry
-    /// and two for each step but the last, what it says and the octets of the packet.
+    /// and three for each step but the last, what it says, the octets of the packet and the damage.
     fn hear(&mut self, frame: &[u8]) -> Vec<Heard>;
 }
 
@@ -61,7 +61,8 @@ impl Hearing for ByCalls<'_> {
                 4 => break,
                 what => {
                     let buffer = if place == 1 { frame } else { &store[..] };
-                    heard.push(Heard::of(&[what, shown[2]], &buffer[start..][..size]));
+                    let numbers = [what, shown[2], step[4]];
+                    heard.push(Heard::of(&numbers, &buffer[start..][..size]));
                 }
             }
         }
@@ -77,9 +78,9 @@ impl Hearing for Extractor {
                 Event::Refused(refusal) => Heard::of(&[refusal.number()], &[]),
                 Event::Entered(entered) => Heard::of(&calls::entered_numbers(&entered), &[]),
                 Event::Packet { idle, octets } => {
-                    Heard::of(&[if idle { 2 } else { 1 }, octets.len() as u64], octets)
+                    Heard::of(&[if idle { 2 } else { 1 }, octets.len() as u64, 0], octets)
                 }
-                Event::Damaged => Heard::of(&[3, 0], &[]),
+                Event::Damaged(damage) => Heard::of(&[3, 0, damage.number()], &[]),
             })
         });
         heard

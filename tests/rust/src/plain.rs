@@ -6,7 +6,7 @@
 
 use crate::reference::extractor::{Entered, Reason};
 use crate::reference::frame::{self, Head, Settings, IDLE_ZONE, NO_START};
-use crate::reference::packet::{look, Header, Look, LONGEST_HEADER};
+use crate::reference::packet::{look, Damage, Header, Look, LONGEST_HEADER};
 use crate::reference::Refusal;
 
 /// What is heard of a frame, in this order: that it is refused, or that it is entered and then its
@@ -16,7 +16,7 @@ pub enum Event<'a> {
     Refused(Refusal),
     Entered(Entered),
     Packet { idle: bool, octets: &'a [u8] },
-    Damaged,
+    Damaged(Damage),
 }
 
 /// The extractor of one channel.
@@ -75,9 +75,9 @@ impl Extractor {
                     hear(packet(header, octets));
                     rest = behind;
                 }
-                Look::Damaged => {
+                Look::Damaged(damage) => {
                     self.in_step = false;
-                    return hear(Event::Damaged);
+                    return hear(Event::Damaged(damage));
                 }
                 Look::Cut | Look::Whole(_) => return self.held.extend_from_slice(rest),
             }
@@ -123,7 +123,7 @@ impl Extractor {
         let held = self.held.len();
         let agrees = match joined {
             _ if held == 0 => pointer == 0 || pointer == IDLE_ZONE,
-            Look::Damaged => return Reason::Damage,
+            Look::Damaged(damage) => return Reason::Damage(damage),
             Look::Whole(header) if header.total - held < zone => {
                 usize::from(pointer) == header.total - held
             }

@@ -17,41 +17,66 @@ pub mod space;
 pub mod trailer;
 pub mod wrap;
 
+use packet::Damage;
+
 /// Why a call was refused.
 #[derive(Clone, Copy, Debug, PartialEq, Eq)]
 pub enum Refusal {
     /// A setting or an argument is out of range.
-    Range = 1,
+    Range,
     /// A lent store, output or bit buffer is too short.
-    Room = 2,
+    Room,
     /// A frame to be read does not have its exact length.
-    Length = 3,
+    Length,
     /// The frame version is not 01.
-    Version = 4,
+    Version,
     /// Another spacecraft or channel.
-    Channel = 5,
+    Channel,
     /// A spare bit is 1, or a field that unwrapping wants to be 0 is not.
-    Spare = 6,
+    Spare,
     /// A pointer that cannot be.
-    Pointer = 7,
-    /// A packet that is not well-formed, or a data unit that cannot be wrapped.
-    Packet = 8,
+    Pointer,
+    /// A packet that is not well-formed, or a data unit that cannot be wrapped; with the damage of
+    /// the packet's header, if that is what is wrong.
+    Packet(Option<Damage>),
     /// The wrong moment.
-    Moment = 9,
+    Moment,
     /// A record, or held octets, that the rules cannot reach.
-    Record = 10,
+    Record,
     /// A frame beyond the judge's last.
-    Beyond = 11,
+    Beyond,
     /// Too many entries for a relay table, an APID past those of it, or a pair twice.
-    Table = 12,
+    Table,
     /// The trailer of a frame to be read is wrong.
-    Trailer = 13,
+    Trailer,
 }
 
 impl Refusal {
     /// The number of document 01's table, or of the request that added it.
     pub fn number(self) -> u64 {
-        self as u64
+        match self {
+            Refusal::Range => 1,
+            Refusal::Room => 2,
+            Refusal::Length => 3,
+            Refusal::Version => 4,
+            Refusal::Channel => 5,
+            Refusal::Spare => 6,
+            Refusal::Pointer => 7,
+            Refusal::Packet(_) => 8,
+            Refusal::Moment => 9,
+            Refusal::Record => 10,
+            Refusal::Beyond => 11,
+            Refusal::Table => 12,
+            Refusal::Trailer => 13,
+        }
+    }
+
+    /// The damage that it names.
+    pub fn damage(self) -> Option<Damage> {
+        match self {
+            Refusal::Packet(damage) => damage,
+            _ => None,
+        }
     }
 }
 

@@ -192,7 +192,7 @@ fn extractor_by_library(input: &Input, _: &mut [u8]) -> Outcome {
             let refusal =
                 Library.extractor_step(&settings, &mut record, &mut store, frame, &mut step);
             assert_eq!(refusal, 0, "a step at its moment");
-            let [what, place, start, size] = step;
+            let [what, place, start, size, _] = step;
             match what {
                 4 => break,
                 1 | 2 => {
@@ -251,7 +251,7 @@ fn multiplexer_by_library(input: &Input, output: &mut [u8]) -> Outcome {
         while let Some(octets) = packet {
             let refusal = Library.mux_put(&settings, &mut record, octets, frame, &mut put);
             assert_eq!(refusal, 0, "a well-formed packet at its moment");
-            let [full, taken] = put;
+            let [full, taken, _] = put;
             if taken == 1 {
                 packet = packets.next();
             }

@@ -4,7 +4,7 @@
 //! packet that runs past its zone is held in a store until it is complete.
 
 use super::frame::{self, Head, Settings, HEAD, IDLE_ZONE, NO_START, WHEEL};
-use super::packet::{look, Kind, Look, LONGEST_HEADER};
+use super::packet::{look, Damage, Kind, Look, LONGEST_HEADER};
 use super::{require, Refusal};
 
 /// Where the extractor stands.
@@ -39,7 +39,7 @@ impl Record {
 /// is longer than they are.
 pub(crate) fn holds_well(limit: usize, held: usize, store: &[u8]) -> bool {
     match store.get(..held).map(|octets| look(limit, octets)) {
-        None | Some(Look::Damaged) => false,
+        None | Some(Look::Damaged(_)) => false,
         Some(Look::Cut) => true,
         Some(Look::Whole(header)) => header.total > held,
     }
@@ -48,13 +48,33 @@ pub(crate) fn holds_well(limit: usize, held: usize, store: &[u8]) -> bool {
 /// Why a frame did not go on where the last one ended.
 #[derive(Clone, Copy, Debug, PartialEq, Eq)]
 pub enum Reason {
-    None = 0,
+    None,
     /// Frames are missing.
-    Gap = 1,
+    Gap,
     /// The pointer is not the agreed one.
-    Pointer = 2,
+    Pointer,
     /// The header of the held packet came out damaged.
-    Damage = 3,
+    Damage(Damage),
+}
+
+impl Reason {
+    /// The number of document 01.
+    pub fn number(self) -> u64 {
+        match self {
+            Reason::None => 0,
+            Reason::Gap => 1,
+            Reason::Pointer => 2,
+            Reason::Damage(_) => 3,
+        }
+    }
+
+    /// The damage that it names.
+    pub fn damage(self) -> Option<Damage> {
+        match self {
+            Reason::Damage(damage) => Some(damage),
+            _ => None,
+        }
+    }
 }
 
 /// What is said of a frame when it is entered.
@@ -72,7 +92,7 @@ pub struct Entered {
 pub enum Step {
     Spent,
     Packet { kind: Kind, part: Part },
-    Damaged,
+    Damaged(Damage),
 }
 
 /// Where a packet lies.
@@ -146,7 +166,7 @@ pub fn step(
         Some(Walked::Packet { kind, part, at }) => {
             (Step::Packet { kind, part }, Record::Walking { last, held: 0, at })
         }
-        Some(Walked::Damaged) => (Step::Damaged, Record::Leaving { last }),
+        Some(Walked::Damaged(damage)) => (Step::Damaged(damage), Record::Leaving { last }),
         Some(Walked::End { held }) => (Step::Spent, Record::InStep { last, held }),
     };
     *record = next;
@@ -207,7 +227,7 @@ fn disagreement(settings: &Settings, held: &[u8], pointer: u16, zone: &[u8]) -> 
         pointer == 0 || pointer == IDLE_ZONE
     } else {
         match look_across(settings.limit, held, zone) {
-            Look::Damaged => return Reason::Damage,
+            Look::Damaged(damage) => return Reason::Damage(damage),
             Look::Whole(header) if header.total - held.len() < zone.len() => {
                 usize::from(pointer) == header.total - held.len()
             }
@@ -241,7 +261,7 @@ pub(crate) enum Walked {
         part: Part,
         at: usize,
     },
-    Damaged,
+    Damaged(Damage),
     /// The zone's end, with so many octets held now.
     End {
         held: usize,
@@ -258,7 +278,7 @@ pub(crate) fn walk_on(settings: &Settings, walk: Walk, store: &mut [u8], zone: &
         look_across(settings.limit, &store[..held], rest)
     };
     match seen {
-        Look::Damaged => Walked::Damaged,
+        Look::Damaged(damage) => Walked::Damaged(damage),
         Look::Whole(header) if header.total - held <= rest.len() => {
             let needed = header.total - held;
             let part = if held == 0 {

@@ -108,7 +108,7 @@ fn follow(
     loop {
         match walk_on(settings, walk, store, zone) {
             Walked::Packet { at, .. } => walk = Walk::from(at),
-            Walked::Damaged => return None,
+            Walked::Damaged(_) => return None,
             Walked::End { held } => return Some((head.count, held)),
         }
     }

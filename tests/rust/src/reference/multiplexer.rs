@@ -51,7 +51,7 @@ pub fn put(
 ) -> Result<Put, Refusal> {
     check(settings, record, frame)?;
     require(record.taken == 0 || packet.len() > record.taken, Refusal::Moment)?;
-    require(well_formed(settings.limit, packet).is_some(), Refusal::Packet)?;
+    well_formed(settings.limit, packet)?;
 
     let left = &packet[record.taken..];
     let size = left.len().min(settings.zone - record.filled);

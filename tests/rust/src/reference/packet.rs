@@ -39,13 +39,34 @@ pub struct Header {
     pub total: usize,
 }
 
+/// What is wrong with a header: request L4 of document 02. A length below a header is at most 7,
+/// which no limit is below, so no header has two of these.
+#[derive(Clone, Copy, Debug, PartialEq, Eq)]
+pub enum Damage {
+    /// The version is neither 000 nor 111.
+    Version = 1,
+    /// A packet of one octet is not idle.
+    NotIdle = 2,
+    /// The length is below its header.
+    BelowHeader = 3,
+    /// The total is over the limit.
+    OverLimit = 4,
+}
+
+impl Damage {
+    /// The number of document 02.
+    pub fn number(self) -> u64 {
+        self as u64
+    }
+}
+
 /// What the front of some octets shows.
 #[derive(Clone, Copy, Debug, PartialEq, Eq)]
 pub enum Look {
     /// Nothing wrong so far, but the header needs more octets.
     Cut,
     /// No well-formed packet begins so.
-    Damaged,
+    Damaged(Damage),
     Whole(Header),
 }
 
@@ -61,7 +82,7 @@ pub(crate) fn look(limit: usize, octets: &[u8]) -> Look {
         None => Look::Cut,
         Some(0b000) => look_at_space(limit, octets),
         Some(0b111) => look_at_encapsulation(limit, octets[0], octets),
-        Some(_) => Look::Damaged,
+        Some(_) => Look::Damaged(Damage::Version),
     }
 }
 
@@ -79,7 +100,7 @@ fn look_at_encapsulation(limit: usize, first: u8, octets: &[u8]) -> Look {
     let protocol = (first >> 2) & 0b111;
     let length = 1 << (first & 0b11);
     if length == 1 && protocol != 0 {
-        return Look::Damaged;
+        return Look::Damaged(Damage::NotIdle);
     }
     let total = match octets.get(..length) {
         None => return Look::Cut,
@@ -93,17 +114,22 @@ fn look_at_encapsulation(limit: usize, first: u8, octets: &[u8]) -> Look {
 
 /// A whole header is damaged when its length is below the header or above the limit.
 fn measured(limit: usize, header: Header) -> Look {
-    if header.total < header.length || header.total > limit {
-        Look::Damaged
+    if header.total < header.length {
+        Look::Damaged(Damage::BelowHeader)
+    } else if header.total > limit {
+        Look::Damaged(Damage::OverLimit)
     } else {
         Look::Whole(header)
     }
 }
 
-/// The header of a lent packet, if that is well-formed and has exactly its stated length.
-pub(crate) fn well_formed(limit: usize, packet: &[u8]) -> Option<Header> {
+/// The header of a lent packet that is well-formed and has exactly its stated length. Checks: 8,
+/// with the damage if the header has any. A header that is cut, as that of an empty packet is, and
+/// another length than the stated one are no damage.
+pub(crate) fn well_formed(limit: usize, packet: &[u8]) -> Result<Header, Refusal> {
     match look(limit, packet) {
-        Look::Whole(header) if header.total == packet.len() => Some(header),
-        _ => None,
+        Look::Damaged(damage) => Err(Refusal::Packet(Some(damage))),
+        Look::Whole(header) if header.total == packet.len() => Ok(header),
+        Look::Cut | Look::Whole(_) => Err(Refusal::Packet(None)),
     }
 }

@@ -59,7 +59,7 @@ fn repeats(entries: &[Entry]) -> bool {
 pub fn route(limit: usize, table: &Table, packet: &[u8], out: &mut [u8]) -> Result<usize, Refusal> {
     require(LIMITS.contains(&limit), Refusal::Range)?;
     require(table.is_reachable(), Refusal::Record)?;
-    let header = well_formed(limit, packet).ok_or(Refusal::Packet)?;
+    let header = well_formed(limit, packet)?;
     let path = match header.kind {
         Kind::Space { apid } if !header.kind.is_idle() => table.path(apid),
         _ => Vec::new(),

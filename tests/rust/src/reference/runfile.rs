@@ -125,7 +125,10 @@ impl Listener {
                 text,
                 format_args!(
                     "frame {} lost {} dropped {} reason {}",
-                    entered.count, entered.lost, entered.dropped, entered.reason as u8
+                    entered.count,
+                    entered.lost,
+                    entered.dropped,
+                    entered.reason.number()
                 ),
             ),
             Err(refusal) => {
@@ -136,7 +139,9 @@ impl Listener {
         loop {
             match extractor::step(settings, record, store, frame) {
                 Ok(Step::Packet { kind, part }) => packet(text, kind, part.size()),
-                Ok(Step::Damaged) => line(text, format_args!("damaged")),
+                Ok(Step::Damaged(damage)) => {
+                    line(text, format_args!("damaged {}", damage.number()))
+                }
                 Ok(Step::Spent) | Err(_) => return,
             }
         }

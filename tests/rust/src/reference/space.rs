@@ -35,13 +35,14 @@ impl Fields {
     }
 }
 
-/// Reads the header at the front of `octets`. Checks: 8.
+/// Reads the header at the front of `octets`. Checks: 8, which names no damage: this is not the
+/// reader of headers that request L4 means.
 pub fn read(octets: &[u8]) -> Result<Fields, Refusal> {
     let (name, sequence, length) = match *octets {
         [a, b, c, d, e, f, ..] => {
             (u16::from_be_bytes([a, b]), u16::from_be_bytes([c, d]), u16::from_be_bytes([e, f]))
         }
-        _ => return Err(Refusal::Packet),
+        _ => return Err(Refusal::Packet(None)),
     };
     let fields = Fields {
         version: (name >> 13) as u8,
@@ -52,7 +53,7 @@ pub fn read(octets: &[u8]) -> Result<Fields, Refusal> {
         count: sequence & 0x3FFF,
         length,
     };
-    require(fields.version == 0, Refusal::Packet)?;
+    require(fields.version == 0, Refusal::Packet(None))?;
     Ok(fields)
 }
 

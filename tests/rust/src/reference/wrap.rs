@@ -14,7 +14,8 @@ pub struct Unwrapped<'a> {
     pub data: &'a [u8],
 }
 
-/// Wraps a data unit to the front of `out` and answers the total. Checks: 1, 8, 2.
+/// Wraps a data unit to the front of `out` and answers the total. Checks: 1, 8, 2. A data unit has
+/// no header, so 8 never names a damage here.
 pub fn wrap(
     limit: usize,
     protocol: u8,
@@ -25,10 +26,10 @@ pub fn wrap(
     let arguments =
         (1..=7).contains(&protocol) && extension <= 15 && (extension == 0 || protocol == EXTENDED);
     require(LIMITS.contains(&limit) && arguments, Refusal::Range)?;
-    require(!data.is_empty() && data.len() <= limit, Refusal::Packet)?;
+    require(!data.is_empty() && data.len() <= limit, Refusal::Packet(None))?;
     let header = smallest_header(protocol, data.len());
     let total = header + data.len();
-    require(total <= limit, Refusal::Packet)?;
+    require(total <= limit, Refusal::Packet(None))?;
     require(out.len() >= total, Refusal::Room)?;
     out[0] = 0b111 << 5 | protocol << 2 | header.trailing_zeros() as u8;
     match header {
@@ -57,13 +58,14 @@ fn smallest_header(protocol: u8, data: usize) -> usize {
     }
 }
 
-/// Answers what an encapsulation packet holds. Checks: 1, 8, 6.
+/// Answers what an encapsulation packet holds. Checks: 1, 8, 6. A space packet is 8 without damage,
+/// unless it has some.
 pub fn unwrap(limit: usize, packet: &[u8]) -> Result<Unwrapped<'_>, Refusal> {
     require(LIMITS.contains(&limit), Refusal::Range)?;
-    let header = well_formed(limit, packet).ok_or(Refusal::Packet)?;
+    let header = well_formed(limit, packet)?;
     let protocol = match header.kind {
         Kind::Encapsulation { protocol } => protocol,
-        Kind::Space { .. } => return Err(Refusal::Packet),
+        Kind::Space { .. } => return Err(Refusal::Packet(None)),
     };
     let extension = if header.length >= 4 { packet[1] & 0x0F } else { 0 };
     require(extension == 0 || protocol == EXTENDED, Refusal::Spare)?;
