@@ -1,5 +1,5 @@
-//! Generators: settings, packets, runs that conform, relay tables, and ways to spoil them, frames of
-//! bits and the trailers of frames.
+//! Generators: settings, packets, runs that conform, relay tables, and ways to spoil them, damaged
+//! headers, frames of bits and the trailers of frames.
 
 use crate::calls::{
     BIT_READER, BIT_SETTINGS, EXTRACTOR, JUDGE, MUX, RELAY, SETTINGS, SPACE_HEADER,
@@ -7,7 +7,7 @@ use crate::calls::{
 use crate::random::Random;
 use crate::reference::frame::{self, Settings, HEAD, IDLE_ZONE, NO_START, WHEEL};
 use crate::reference::multiplexer;
-use crate::reference::packet::IDLE_APID;
+use crate::reference::packet::{IDLE_APID, LONGEST_HEADER};
 use crate::reference::space;
 use crate::reference::trailer::{self, remainder, TRAILER};
 
@@ -174,6 +174,94 @@ pub fn front(random: &mut Random, limit: usize) -> Vec<u8> {
     octets
 }
 
+/// A header of 2, 4, 6 or 8 octets that states this total. Six are those of a space packet, and the
+/// fields that do not count here are of any kind.
+fn stating(random: &mut Random, header: usize, total: usize) -> Vec<u8> {
+    let mut octets = random.octets(header);
+    let length = (total as u32).to_be_bytes();
+    if header == 6 {
+        octets[0] &= 0x1F;
+        octets[4..].copy_from_slice(&((total - 7) as u16).to_be_bytes());
+        return octets;
+    }
+    octets[0] = 0xE0 | octets[0] & 0x1C | header.trailing_zeros() as u8;
+    match header {
+        2 => octets[1] = length[3],
+        4 => octets[2..].copy_from_slice(&length[2..]),
+        _ => octets[4..].copy_from_slice(&length),
+    }
+    octets
+}
+
+/// The greatest total that a header of 2, 4, 6 or 8 octets can state.
+fn most_stated(header: usize) -> usize {
+    match header {
+        2 => 255,
+        4 => 65_535,
+        6 => 65_542,
+        _ => u32::MAX as usize,
+    }
+}
+
+/// Octets that begin with a header of this damage, 1 to 4, under this limit. Behind it stand some
+/// more or none, or all that it states.
+pub fn damaged(random: &mut Random, limit: usize, damage: u64) -> Vec<u8> {
+    let some = random.within(1, 20);
+    let mut behind = random.pick(&[0, some]);
+    let mut octets = match damage {
+        1 => vec![(random.within(1, 6) as u8) << 5 | random.octet() & 0x1F],
+        2 => vec![0xE0 | (random.within(1, 7) as u8) << 2],
+        3 => {
+            let header = random.pick(&[2, 4, 8]);
+            let any = random.within(0, header - 1);
+            let total = random.pick(&[0, header - 1, any]);
+            stating(random, header, total)
+        }
+        _ => {
+            let able: Vec<usize> =
+                [2, 4, 6, 6, 8].into_iter().filter(|&header| most_stated(header) > limit).collect();
+            let header = random.pick(&able);
+            let most = most_stated(header);
+            let (near, any) = (random.within(2, 20), random.within(limit + 1, most));
+            // At times one that is within the limit, or below the header, in fewer bits.
+            let low = random.pick(&[9, limit]);
+            let alike = (1 << random.pick(&[8, 16, 24])) + random.within(0, low);
+            let total = random.pick(&[limit + 1, limit + near, most, any, alike]);
+            let total = total.clamp(limit + 1, most);
+            if total <= 1_000 && random.once_in(2) {
+                behind = total - header;
+            }
+            stating(random, header, total)
+        }
+    };
+    octets.extend(random.octets(behind));
+    octets
+}
+
+/// What is lent for a packet and is none under this limit: its header has one of the four damages,
+/// or it is empty, its header is cut, or its length is not the one that it states.
+pub fn no_packet(random: &mut Random, limit: usize) -> Vec<u8> {
+    let total = random.within(1, limit.min(40));
+    let mut packet = packet_of(random, total);
+    match random.within(1, 9) {
+        damage @ 1..=4 => return damaged(random, limit, damage as u64),
+        5 => packet.clear(),
+        6 => {
+            // At times of a packet that would come out damaged.
+            if random.once_in(2) {
+                let damage = random.within(3, 4) as u64;
+                packet = damaged(random, limit, damage);
+            }
+            packet.truncate(random.within(1, 7).min(packet.len() - 1));
+        }
+        7 => packet.truncate(total - 1),
+        8 => packet.push(random.octet()),
+        // Longer than a small limit too, though what it states is not.
+        _ => packet.resize(limit.min(1_000) + random.within(1, 9), 0xE0),
+    }
+    packet
+}
+
 /// Octets that may or may not begin a space packet.
 pub fn space_front(random: &mut Random) -> Vec<u8> {
     let length = random.pick(&[0, 5, 6, 6, 6, 7, 13]);
@@ -287,6 +375,9 @@ pub fn damage_table(random: &mut Random, table: &mut [u64]) {
 /// A packet for a relay with this table: often a space packet of one of its APIDs, or of one near
 /// it. At times it is not well-formed.
 pub fn relay_packet(random: &mut Random, table: &[u64], limit: usize) -> Vec<u8> {
+    if random.once_in(6) {
+        return no_packet(random, limit);
+    }
     let total = match random.within(1, 10) {
         1 => random.within(1, 6),
         2 => limit,
@@ -373,13 +464,42 @@ fn flush(settings: &Settings, record: &mut multiplexer::Record, frame: &mut [u8]
     }
 }
 
-/// A run that conforms, or one spoilt in up to four ways.
+/// A run that conforms, or one spoilt in up to four ways, at times with a damaged header besides.
 pub fn some_run(random: &mut Random, settings: &Settings) -> Vec<Vec<u8>> {
-    let mut frames = run(random, settings, true).frames;
-    for _ in 0..random.within(0, 4) {
-        spoil(random, settings, &mut frames);
+    let mut run = run(random, settings, true);
+    if random.once_in(3) {
+        damage_header(random, settings, &mut run);
     }
-    frames
+    for _ in 0..random.within(0, 4) {
+        spoil(random, settings, &mut run.frames);
+    }
+    run.frames
+}
+
+/// Damages the header of one of the packets of a run that conforms, in the zones where it lies. The
+/// pointers stay, and trailers are made right again.
+pub fn damage_header(random: &mut Random, settings: &Settings, run: &mut Run) {
+    let ends = run.packets.iter().scan(0, |end, packet| {
+        *end += packet.len();
+        Some(*end)
+    });
+    let starts: Vec<usize> = [0].into_iter().chain(ends).take(run.packets.len()).collect();
+    // Often one that starts near the end of a zone, so that its header may go on in the next.
+    let cut = |start: &usize| start % settings.zone + LONGEST_HEADER > settings.zone;
+    let near_an_end: Vec<usize> = starts.iter().copied().filter(cut).collect();
+    let among = if near_an_end.is_empty() || random.once_in(3) { starts } else { near_an_end };
+    if among.is_empty() {
+        return;
+    }
+    let start = random.pick(&among);
+    let damage = random.pick(&[1, 2, 3, 3, 4]);
+    let header = damaged(random, settings.limit, damage);
+    let laid = run.frames.iter_mut().filter(|frame| pointer(frame) != IDLE_ZONE);
+    let octets = laid.flat_map(|frame| &mut frame[HEAD..settings.zone_end()]);
+    octets.skip(start).zip(header).for_each(|(octet, damaged)| *octet = damaged);
+    if settings.trailer {
+        run.frames.iter_mut().for_each(|frame| seal(frame));
+    }
 }
 
 /// Spoils a run in one way. Frames may come out with another length. Where they have trailers, a
@@ -595,6 +715,11 @@ fn set_count(frame: &mut [u8], count: u32) {
     if let Some(octets) = frame.get_mut(2..5) {
         octets.copy_from_slice(&count.to_be_bytes()[1..]);
     }
+}
+
+/// The pointer of a frame that is long enough for one.
+fn pointer(frame: &[u8]) -> u16 {
+    u16::from_be_bytes([frame[6], frame[7]])
 }
 
 fn set_pointer(frame: &mut [u8], pointer: u16) {

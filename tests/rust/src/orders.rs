@@ -24,6 +24,9 @@ impl Order {
 
 const WRONG_TRAILER: u64 = 13;
 
+/// The calls whose refusal 8 may name a damage; that of the others never does.
+pub const NAMING: [&str; 3] = ["unwrap", "mux_put", "relay_route"];
+
 pub const ORDERS: [Order; 20] = [
     Order { call: "read_header", refusals: &[1] },
     Order { call: "well_formed", refusals: &[1] },
@@ -82,14 +85,14 @@ pub fn arguments(call: &str, refusals: &[u64], trailer: bool) -> Arguments {
         "unwrap" => (vec![64, 0, 0], vec![], packet, vec![], calls::UNWRAPPED),
         "read_space" => (vec![], vec![], vec![0, 5, 0xC0, 0, 0, 1], vec![], calls::SPACE_READ),
         "write_space" => (vec![0, 0, 0, 5, 3, 0, 1], vec![], vec![], vec![0; 6], 0),
-        "unit_part" => (vec![2, 0, 4, 3], vec![], packet, vec![], calls::UNIT),
+        "unit_part" => (vec![2, 0, 4, 3, 0], vec![], packet, vec![], calls::UNIT),
         "mux_begin" => (vec![], vec![7; 4], vec![], vec![], 0),
         "mux_put" => (channel, vec![5, 0, 2_047, 0], packet, written, calls::PUT),
         "mux_flush" => (channel, vec![5, 0, 2_047, 0], vec![], written, calls::FLUSH),
         "mux_idle" => (channel, vec![5, 0, 2_047, 0], vec![], written, 0),
         "extractor_enter" => (channel, vec![2, 4, 0, 0], frame, vec![0; 64], calls::ENTERED),
         "extractor_step" => (channel, vec![3, 5, 0, 0], frame, vec![0; 64], calls::STEP),
-        "show" => (vec![1, 1, 8, 10], vec![], frame, vec![0; 64], calls::SHOWN),
+        "show" => (vec![1, 1, 8, 10, 0], vec![], frame, vec![0; 64], calls::SHOWN),
         "judge_frame" => (channel, vec![1, 5, 4, 0], frame, vec![0; 64], 0),
         "judge_close" => (channel, vec![1, 5, 4, 0], vec![], vec![0; 64], calls::VERDICT),
         "bits_write" => ([bit_channel, vec![13]].concat(), vec![5], vec![0xA1; 2], written, 0),
@@ -146,6 +149,23 @@ fn change(call: &str, refusal: u64, arguments: &mut Arguments) {
         (8, "read_space") => octets[0] = 0x20,
         (8, _) => octets.clear(),
         _ => panic!("{call} never gives {refusal}"),
+    }
+}
+
+/// Gives the packet that a call is lent a header with this damage, which calls for refusal 8 too; 0
+/// is none. The other changes are not disturbed, and not that of 8 either, which is another length.
+pub fn damage(number: u64, arguments: &mut Arguments) {
+    let octets = &mut arguments.octets;
+    match number {
+        0 => {}
+        1 => octets[0] = 0x20,
+        2 => octets[0] = 0xE4,
+        // A header of four octets, and its length: below that, or over the limit of 64.
+        3 | 4 => {
+            octets[0] = 0xE6;
+            octets[2..4].copy_from_slice(if number == 3 { &[0, 3] } else { &[0, 65] });
+        }
+        _ => panic!("no damage {number}"),
     }
 }
 

@@ -13,7 +13,7 @@ use crate::orders::{self, Arguments, ORDERS};
 use crate::random::Random;
 use crate::reference::bitstream::octets_for;
 use crate::reference::frame::{Settings, HEAD, WHEEL};
-use crate::reference::packet::LIMITS;
+use crate::reference::packet::{self, Look, LIMITS};
 use crate::reference::relay::MOST_ENTRIES;
 use crate::reference::trailer::TRAILER;
 
@@ -171,6 +171,24 @@ fn some_limit(random: &mut Random) -> u64 {
     }
 }
 
+/// The limit in range that is nearest to this one.
+fn near(limit: u64) -> usize {
+    limit.clamp(*LIMITS.start() as u64, *LIMITS.end() as u64) as usize
+}
+
+/// Why a lent packet is refused by 8, in numbers for the notes: its damage; or else 5 because it is
+/// empty, 6 because its header is cut, 7 because it has another length than it states, or 8 because
+/// it is one that its call does not take, a space packet to be unwrapped.
+fn refused_for(limit: u64, packet: &[u8]) -> u64 {
+    match packet::read_header(near(limit), packet) {
+        Ok(Look::Damaged(damage)) => damage.number(),
+        Ok(Look::Cut) if packet.is_empty() => 5,
+        Ok(Look::Cut) => 6,
+        Ok(Look::Whole(header)) if header.total != packet.len() => 7,
+        _ => 8,
+    }
+}
+
 /// Settings as numbers: these, or now and then some at the edge of the range.
 fn some_settings(random: &mut Random, settings: &Settings) -> [u64; calls::SETTINGS] {
     if random.once_in(50) {
@@ -183,7 +201,12 @@ fn some_settings(random: &mut Random, settings: &Settings) -> [u64; calls::SETTI
 fn headers(pair: &mut Pair, random: &mut Random) -> Result<(), Difference> {
     for _ in 0..20 {
         let limit = some_limit(random);
-        let mut octets = generate::front(random, limit.clamp(1, 70_000) as usize);
+        let mut octets = if random.once_in(3) {
+            let damage = random.within(1, 4) as u64;
+            generate::damaged(random, near(limit), damage)
+        } else {
+            generate::front(random, limit.clamp(1, 70_000) as usize)
+        };
         if random.once_in(3) {
             octets.truncate(random.within(0, 9));
         }
@@ -194,6 +217,7 @@ fn headers(pair: &mut Pair, random: &mut Random) -> Result<(), Difference> {
         })?;
         if refusal == 0 {
             pair.note("header found", lent.answer[0]);
+            pair.note("damage of a header", lent.answer[6]);
             octets.truncate(lent.answer[5].max(1) as usize);
         }
         formed(pair, random, limit, &octets)?;
@@ -250,12 +274,12 @@ fn some_answer(random: &mut Random, said: &[u64]) -> Vec<u64> {
 fn wrapping(pair: &mut Pair, random: &mut Random) -> Result<(), Difference> {
     for _ in 0..6 {
         let limit = some_limit(random);
-        let near = limit.clamp(7, 65_542) as usize;
+        let most = near(limit);
         let size = match random.within(1, 10) {
             1 => 0,
             2 => random.within(250, 256),
             3 => random.within(65_528, 65_536),
-            4..=6 => near - random.within(0, 7).min(near - 1),
+            4..=6 => most - random.within(0, 7).min(most - 1),
             _ => random.within(1, 40),
         };
         let data = random.octets(size);
@@ -280,12 +304,17 @@ fn wrapping(pair: &mut Pair, random: &mut Random) -> Result<(), Difference> {
         let refusal = pair.both("wrap", &arguments, &data, &mut lent, |calls, lent| {
             calls.wrap(limit, protocol, extension, &data, &mut lent.buffer, &mut lent.answer)
         })?;
+        if refusal == 8 {
+            // 1 is an empty data unit, 2 an overlong one.
+            pair.note("data unit refused for", if data.is_empty() { 1 } else { 2 });
+        }
 
-        // What was wrapped is unwrapped again, as it is or with one octet changed.
+        // What was wrapped is unwrapped again, as it is or with one octet changed; and what is no
+        // packet.
         let mut packet = if refusal == 0 {
             lent.buffer[..lent.answer[0] as usize].to_vec()
         } else {
-            let total = random.within(1, near.min(300));
+            let total = random.within(1, most.min(300));
             generate::packet_of(random, total)
         };
         match random.within(1, 4) {
@@ -299,17 +328,33 @@ fn wrapping(pair: &mut Pair, random: &mut Random) -> Result<(), Difference> {
             _ => {}
         }
         let limit = if random.once_in(8) { some_limit(random) } else { limit };
-        let answer = answer(random, calls::UNWRAPPED);
-        let mut lent = Lent { record: vec![], buffer: vec![], answer };
-        pair.both("unwrap", &[limit], &packet, &mut lent, |calls, lent| {
-            calls.unwrap(limit, &packet, &mut lent.answer)
-        })?;
-        let unwrapped = some_answer(random, &lent.answer);
-        lent.answer = self::answer(random, calls::UNIT);
-        pair.both("unit_part", &unwrapped, &packet, &mut lent, |calls, lent| {
-            calls.unit_part(&unwrapped, &packet, &mut lent.answer)
-        })?;
+        unwrap(pair, random, limit, &packet)?;
+        let none = generate::no_packet(random, near(limit));
+        unwrap(pair, random, limit, &none)?;
     }
+    Ok(())
+}
+
+/// Unwraps a packet on both sides, and looks for the data unit in it.
+fn unwrap(
+    pair: &mut Pair,
+    random: &mut Random,
+    limit: u64,
+    packet: &[u8],
+) -> Result<(), Difference> {
+    let answer = answer(random, calls::UNWRAPPED);
+    let mut lent = Lent { record: vec![], buffer: vec![], answer };
+    let refusal = pair.both("unwrap", &[limit], packet, &mut lent, |calls, lent| {
+        calls.unwrap(limit, packet, &mut lent.answer)
+    })?;
+    if refusal == 8 {
+        pair.note("unwrap refused for", refused_for(limit, packet));
+    }
+    let unwrapped = some_answer(random, &lent.answer);
+    lent.answer = self::answer(random, calls::UNIT);
+    pair.both("unit_part", &unwrapped, packet, &mut lent, |calls, lent| {
+        calls.unit_part(&unwrapped, packet, &mut lent.answer)
+    })?;
     Ok(())
 }
 
@@ -338,13 +383,14 @@ fn multiplexing(pair: &mut Pair, random: &mut Random) -> Result<(), Difference> 
         match random.within(1, 12) {
             1 => flush(pair, random, &numbers, &mut lent)?,
             2 => idle(pair, &numbers, &mut lent)?,
-            3 if random.once_in(3) => {
+            3 if random.once_in(2) => {
                 // Another packet than the one begun, or one that is not well-formed.
                 let mut other = generate::packet(random, &settings);
-                match random.within(1, 4) {
+                match random.within(1, 8) {
                     1 => other.push(0),
                     2 => other.truncate(random.within(0, other.len())),
                     3 => other[0] = random.octet(),
+                    4..=6 => other = generate::no_packet(random, settings.limit),
                     _ => {}
                 }
                 put(pair, random, &numbers, &mut lent, &other)?;
@@ -376,6 +422,8 @@ fn put(
     })?;
     if refusal == 0 {
         pair.note("full and taken", 2 * lent.answer[0] + lent.answer[1]);
+    } else if refusal == 8 {
+        pair.note("put refused for", refused_for(numbers[3], packet));
     }
     Ok(refusal == 0 && lent.answer[1] == 1)
 }
@@ -508,9 +556,13 @@ fn enter(
     frame: &[u8],
 ) -> Result<u64, Difference> {
     lent.answer = answer(random, calls::ENTERED);
-    pair.both("extractor_enter", numbers, frame, lent, |calls, lent| {
+    let refusal = pair.both("extractor_enter", numbers, frame, lent, |calls, lent| {
         calls.extractor_enter(numbers, &mut lent.record, &lent.buffer, frame, &mut lent.answer)
-    })
+    })?;
+    if refusal == 0 && lent.answer[5] == 3 {
+        pair.note("damage at entering", lent.answer[6]);
+    }
+    Ok(refusal)
 }
 
 fn step(
@@ -527,6 +579,9 @@ fn step(
     if refusal == 0 {
         pair.note("step", lent.answer[0]);
         pair.note("packet lies in", lent.answer[1]);
+        if lent.answer[0] == 3 {
+            pair.note("damage in a step", lent.answer[4]);
+        }
     }
     Ok(refusal)
 }
@@ -728,8 +783,7 @@ fn load(pair: &mut Pair, lent: &mut Lent, list: &[u64]) -> Result<(), Difference
 /// Routes some packet by the table in the record.
 fn route(pair: &mut Pair, random: &mut Random, lent: &mut Lent) -> Result<(), Difference> {
     let limit = some_limit(random);
-    let near = limit.clamp(7, 65_542) as usize;
-    let packet = generate::relay_packet(random, &lent.record, near);
+    let packet = generate::relay_packet(random, &lent.record, near(limit));
     let size = room(random, destinations(&lent.record, &packet));
     lent.buffer = random.octets(size);
     lent.answer = answer(random, calls::ROUTED);
@@ -740,6 +794,8 @@ fn route(pair: &mut Pair, random: &mut Random, lent: &mut Lent) -> Result<(), Di
         pair.note("routed", lent.answer[0]);
         // Two stand for all that are several.
         pair.note("destinations", lent.answer[1].min(2));
+    } else if refusal == 8 {
+        pair.note("route refused for", refused_for(limit, &packet));
     }
     Ok(())
 }
@@ -777,7 +833,11 @@ fn any_record(pair: &mut Pair, random: &mut Random) -> Result<(), Difference> {
                 let record = generate::mux_record(random, &settings).to_vec();
                 let buffer = random.octets(settings.frame_length());
                 let mut lent = Lent { record, buffer, answer: vec![] };
-                let packet = generate::packet(random, &settings);
+                let packet = if random.once_in(4) {
+                    generate::no_packet(random, settings.limit)
+                } else {
+                    generate::packet(random, &settings)
+                };
                 match random.within(1, 3) {
                     1 => flush(pair, random, &numbers, &mut lent)?,
                     2 => idle(pair, &numbers, &mut lent)?,
@@ -871,7 +931,7 @@ fn short_arrays(pair: &mut Pair, random: &mut Random) -> Result<(), Difference> 
             calls.write_space(&header, &mut lent.buffer)
         })?;
 
-        let (numbers, mut lent) = all(random, &[2, 0, 4, 3], &[0], calls::UNIT);
+        let (numbers, mut lent) = all(random, &[2, 0, 4, 3, 0], &[0], calls::UNIT);
         pair.both("unit_part", &numbers, &packet, &mut lent, |calls, lent| {
             calls.unit_part(&numbers, &packet, &mut lent.answer)
         })?;
@@ -919,7 +979,7 @@ fn short_arrays(pair: &mut Pair, random: &mut Random) -> Result<(), Difference> 
             )
         })?;
 
-        let (numbers, mut lent) = all(random, &[1, 1, 8, 1], &[0], calls::SHOWN);
+        let (numbers, mut lent) = all(random, &[1, 1, 8, 1, 0], &[0], calls::SHOWN);
         lent.buffer = store.clone();
         pair.both("show", &numbers, &frame, &mut lent, |calls, lent| {
             calls.show(&numbers, &frame, &lent.buffer, &mut lent.answer)
@@ -959,15 +1019,18 @@ fn short_arrays(pair: &mut Pair, random: &mut Random) -> Result<(), Difference> 
     Ok(())
 }
 
-/// Every call with several of its refusals called for at once.
+/// Every call with several of its refusals called for at once, at times with a damaged header.
 fn several_refusals(pair: &mut Pair, random: &mut Random) -> Result<(), Difference> {
     for order in &ORDERS {
         for _ in 0..6 {
             let trailer = random.once_in(2);
             let refusals: Vec<u64> =
                 order.refusals(trailer).filter(|_| random.once_in(3)).collect();
-            let Arguments { numbers, record, octets, buffer, answer } =
-                orders::arguments(order.call, &refusals, trailer);
+            let mut arguments = orders::arguments(order.call, &refusals, trailer);
+            if orders::NAMING.contains(&order.call) {
+                orders::damage(random.within(0, 4) as u64, &mut arguments);
+            }
+            let Arguments { numbers, record, octets, buffer, answer } = arguments;
             let mut lent = Lent { record, buffer, answer };
             pair.both(order.call, &numbers, &octets, &mut lent, |calls, lent| {
                 let Lent { record, buffer, answer } = lent.clone();

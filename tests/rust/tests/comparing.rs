@@ -28,6 +28,7 @@ fn the_reference_agrees_with_itself_and_everything_is_met() {
     }
     for (what, numbers) in [
         ("header found", 1..=3),
+        ("damage of a header", 0..=4),
         ("well formed", 1..=2),
         // A put ends with a full zone or a taken packet, or both.
         ("full and taken", 1..=3),
@@ -35,6 +36,14 @@ fn the_reference_agrees_with_itself_and_everything_is_met() {
         ("reason", 0..=3),
         ("step", 1..=4),
         ("packet lies in", 0..=2),
+        ("damage in a step", 1..=4),
+        // A wrong first octet is damage in the zone where it stands.
+        ("damage at entering", 3..=4),
+        // The damages, and then what 8 is without one; a space packet only where it is unwrapped.
+        ("put refused for", 1..=7),
+        ("route refused for", 1..=7),
+        ("unwrap refused for", 1..=8),
+        ("data unit refused for", 1..=2),
         ("shown in", 0..=2),
         ("verdict", 1..=2),
         ("loss flag", 0..=1),
@@ -50,6 +59,9 @@ fn the_reference_agrees_with_itself_and_everything_is_met() {
         for number in numbers {
             assert!(tally.said.contains_key(&(what, number)), "{what} {number}");
         }
+    }
+    for number in 0..=2 {
+        assert!(!tally.said.contains_key(&("damage at entering", number)), "entering {number}");
     }
     // No call gives a refusal that is not in its order; 2 may be for an array.
     for (call, refusal) in tally.refusals.keys() {
@@ -149,7 +161,7 @@ fn an_extractor_that_refuses_all_frames() {
         if outcome.call == "extractor_enter" && *outcome.refusal == 0 {
             *outcome.refusal = 7;
             outcome.record[..4].copy_from_slice(&lent[..4]);
-            outcome.answer[..6].fill(0);
+            outcome.answer[..7].fill(0);
         }
     });
     assert_eq!(call, "extractor_enter");
@@ -159,7 +171,7 @@ fn an_extractor_that_refuses_all_frames() {
 fn an_extractor_that_calls_each_frame_spent() {
     let call = seen(|lent, _, outcome| {
         if outcome.call == "extractor_step" && *outcome.refusal == 0 {
-            outcome.answer[..4].copy_from_slice(&[4, 0, 0, 0]);
+            outcome.answer[..5].copy_from_slice(&[4, 0, 0, 0, 0]);
             outcome.record[..4].copy_from_slice(&[1, lent[1], 0, 0]);
         }
     });

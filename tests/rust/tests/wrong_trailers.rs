@@ -1,15 +1,13 @@
 //! Impostors that have trailers wrong in one way. The sessions see through each of them, in the call
 //! in which it is one.
 
-use itzahuemo_reference::calls::{Calls, Reference};
-use itzahuemo_reference::each_call;
+mod impostor;
+
+use impostor::{by_reference, first_seen, Way};
 use itzahuemo_reference::generate::{seal, Rule, WRONG_REMAINDERS};
-use itzahuemo_reference::orders::{make, Arguments};
+use itzahuemo_reference::orders::Arguments;
 use itzahuemo_reference::reference::frame::HEAD;
 use itzahuemo_reference::reference::trailer::{is_right, remainder, TRAILER};
-use itzahuemo_reference::sessions::session;
-
-const SESSIONS: u64 = 30_000;
 
 /// The calls that read a frame and check it.
 const READING: [&str; 3] = ["extractor_enter", "judge_frame", "bits_read"];
@@ -30,93 +28,6 @@ const OF_FRAMES: [&str; 8] = [
     "bits_write",
     "bits_read",
 ];
-
-/// A way to make a call.
-type Way<'a> = &'a dyn Fn(&str, &mut Arguments) -> u64;
-
-/// The reference, but for one call, which is made in its own way.
-struct Impostor<'a> {
-    call: &'a str,
-    way: Way<'a>,
-}
-
-/// An argument of a call, lent among all of them and taken back.
-trait Lent {
-    fn lend(&self, name: &str, all: &mut Arguments);
-    fn take_back(self, name: &str, all: &Arguments);
-}
-
-impl Lent for u64 {
-    fn lend(&self, _: &str, all: &mut Arguments) {
-        all.numbers.push(*self);
-    }
-
-    fn take_back(self, _: &str, _: &Arguments) {}
-}
-
-impl Lent for &[u64] {
-    fn lend(&self, name: &str, all: &mut Arguments) {
-        let place =
-            if matches!(name, "record" | "table") { &mut all.record } else { &mut all.numbers };
-        place.extend_from_slice(self);
-    }
-
-    fn take_back(self, _: &str, _: &Arguments) {}
-}
-
-impl Lent for &mut [u64] {
-    fn lend(&self, name: &str, all: &mut Arguments) {
-        let place = if name == "answer" { &mut all.answer } else { &mut all.record };
-        place.extend_from_slice(self);
-    }
-
-    fn take_back(self, name: &str, all: &Arguments) {
-        self.copy_from_slice(if name == "answer" { &all.answer } else { &all.record });
-    }
-}
-
-impl Lent for &[u8] {
-    fn lend(&self, name: &str, all: &mut Arguments) {
-        let place = if name == "store" { &mut all.buffer } else { &mut all.octets };
-        place.extend_from_slice(self);
-    }
-
-    fn take_back(self, _: &str, _: &Arguments) {}
-}
-
-impl Lent for &mut [u8] {
-    fn lend(&self, _: &str, all: &mut Arguments) {
-        all.buffer.extend_from_slice(self);
-    }
-
-    fn take_back(self, _: &str, all: &Arguments) {
-        self.copy_from_slice(&all.buffer);
-    }
-}
-
-macro_rules! the_impostor {
-    ($($name:ident($($argument:ident: $type:ty),*);)*) => {
-        impl Calls for Impostor<'_> {
-            $(fn $name(&self, $($argument: $type),*) -> u64 {
-                let call = stringify!($name);
-                if call != self.call {
-                    return Reference.$name($($argument),*);
-                }
-                let mut all = Arguments::default();
-                $($argument.lend(stringify!($argument), &mut all);)*
-                let refusal = (self.way)(call, &mut all);
-                $($argument.take_back(stringify!($argument), &all);)*
-                refusal
-            })*
-        }
-    };
-}
-
-each_call!(the_impostor);
-
-fn by_reference(call: &str, all: &mut Arguments) -> u64 {
-    make(&Reference, call, all)
-}
 
 /// Where the setting stands among a call's numbers.
 fn place_of_setting(call: &str) -> usize {
@@ -153,21 +64,10 @@ fn seen_on_any_channel(what: &str, calls: &[&str], way: Way) {
     }
 }
 
-/// The call in which the comparison first sees through an impostor.
-fn first_seen(call: &str, way: Way) -> &'static str {
-    let impostor = Impostor { call, way };
-    (0..SESSIONS)
-        .find_map(|seed| session(&Reference, &impostor, seed).err())
-        .map_or("never", |difference| difference.call)
-}
-
 #[test]
 fn an_impostor_that_changes_nothing_is_not_seen() {
     for call in OF_FRAMES.iter().chain(&["judge_close"]) {
-        let impostor = Impostor { call, way: &by_reference };
-        for seed in 0..1_000 {
-            assert!(session(&Reference, &impostor, seed).is_ok());
-        }
+        impostor::never_seen(call);
     }
 }
 
@@ -357,7 +257,7 @@ fn a_step_that_checks_the_trailer() {
         match by_reference(call, all) {
             0 if is_wrong(all) => {
                 *all = lent;
-                all.answer[..4].fill(0);
+                all.answer[..5].fill(0);
                 13
             }
             refusal => refusal,
@@ -368,7 +268,7 @@ fn a_step_that_checks_the_trailer() {
         let refusal = by_reference(call, all);
         if refusal == 0 && is_wrong(all) {
             *all = lent;
-            all.answer[..4].copy_from_slice(&[3, 0, 0, 0]);
+            all.answer[..5].copy_from_slice(&[3, 0, 0, 0, 1]);
             let last = all.record[1];
             all.record[..4].copy_from_slice(&[4, last, 0, 0]);
         }
