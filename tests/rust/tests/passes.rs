@@ -4,7 +4,7 @@ use itzahuemo_reference::reference::bitstream::{self, Reader, Writer};
 use itzahuemo_reference::reference::extractor::{self, Entered, Reason, Record, Step};
 use itzahuemo_reference::reference::frame::{self, Settings, HEAD, IDLE_ZONE, NO_START};
 use itzahuemo_reference::reference::multiplexer;
-use itzahuemo_reference::reference::packet::{read_header, Header, Kind, Look};
+use itzahuemo_reference::reference::packet::{read_header, Damage, Header, Kind, Look};
 use itzahuemo_reference::reference::runfile::aosread;
 use itzahuemo_reference::reference::wrap::{unwrap, wrap};
 use itzahuemo_reference::reference::Refusal;
@@ -32,6 +32,17 @@ fn second(count: u8, pointer: u16) -> [u8; 18] {
     frame
 }
 
+/// The run of these frames, as the program reads it.
+fn run(frames: &[[u8; 18]]) -> Vec<u8> {
+    let mut input = SETUP.to_vec();
+    for frame in frames {
+        input.push(0x02);
+        input.extend(frame);
+    }
+    input.push(0x03);
+    input
+}
+
 /// An extractor with its store, which checks that no frame needs too many steps.
 struct Listener {
     record: Record,
@@ -52,18 +63,19 @@ impl Listener {
         let (entered, packets, damaged) = listener.hear(&FIRST).unwrap();
         assert_eq!((entered.count, entered.lost, entered.reason), (0, 0, Reason::None));
         assert_eq!(packets, [(Kind::Space { apid: 5 }, FIRST[8..16].to_vec())]);
-        assert!(!damaged);
+        assert_eq!(damaged, None);
         assert_eq!(listener.record, Record::InStep { last: 0, held: 2 });
         listener
     }
 
-    fn hear(&mut self, frame: &[u8]) -> Result<(Entered, Vec<Shown>, bool), Refusal> {
+    /// What is said of a frame when it is entered, its packets, and the damage if a step met one.
+    fn hear(&mut self, frame: &[u8]) -> Result<(Entered, Vec<Shown>, Option<Damage>), Refusal> {
         let entered = extractor::enter(&CHANNEL, &mut self.record, &self.store, frame)?;
-        let (mut packets, mut damaged) = (Vec::new(), false);
+        let (mut packets, mut damaged) = (Vec::new(), None);
         for _ in 0..=CHANNEL.zone {
             match extractor::step(&CHANNEL, &mut self.record, &mut self.store, frame)? {
                 Step::Spent => return Ok((entered, packets, damaged)),
-                Step::Damaged => damaged = true,
+                Step::Damaged(damage) => damaged = Some(damage),
                 Step::Packet { kind, part } => {
                     packets.push((kind, extractor::show(part, &self.store, frame).to_vec()));
                 }
@@ -81,12 +93,6 @@ fn idle_seven() -> Shown {
 
 #[test]
 fn pass_01_the_whole_run() {
-    let mut input = SETUP.to_vec();
-    for frame in [FIRST, SECOND] {
-        input.push(0x02);
-        input.extend(frame);
-    }
-    input.push(0x03);
     let output = "\
 setup 66 3 zone 10 limit 1024
 frame 0 lost 0 dropped 0 reason 0
@@ -96,14 +102,14 @@ encap 2 5
 idle 7
 pass
 ";
-    assert_eq!(aosread(&input), output);
+    assert_eq!(aosread(&run(&[FIRST, SECOND])), output);
 
     let mut listener = Listener::begun();
     let (entered, packets, damaged) = listener.hear(&SECOND).unwrap();
     assert_eq!((entered.lost, entered.dropped, entered.reason), (0, 0, Reason::None));
     let whole = vec![0xE9, 0x05, 0x11, 0x22, 0x33];
     assert_eq!(packets, [(Kind::Encapsulation { protocol: 2 }, whole), idle_seven()]);
-    assert!(!damaged);
+    assert_eq!(damaged, None);
 }
 
 #[test]
@@ -111,7 +117,7 @@ fn pass_02_the_second_frame_alone() {
     let (entered, packets, damaged) = Listener::fresh().hear(&SECOND).unwrap();
     assert_eq!((entered.lost, entered.dropped, entered.reason), (0, 0, Reason::None));
     assert_eq!(packets, [idle_seven()]);
-    assert!(!damaged);
+    assert_eq!(damaged, None);
 }
 
 #[test]
@@ -126,13 +132,26 @@ fn pass_04_pointer_2() {
     let (entered, packets, damaged) = Listener::begun().hear(&second(1, 2)).unwrap();
     assert_eq!((entered.lost, entered.dropped, entered.reason), (0, 2, Reason::Pointer));
     assert_eq!(packets, []);
-    assert!(damaged);
+    assert_eq!(damaged, Some(Damage::Version));
+
+    let output = "\
+setup 66 3 zone 10 limit 1024
+frame 0 lost 0 dropped 0 reason 0
+space 5 8
+frame 1 lost 0 dropped 2 reason 2
+damaged 1
+fault 1
+";
+    assert_eq!(aosread(&run(&[FIRST, second(1, 2)])), output);
 }
 
 #[test]
 fn pass_05_pointers_9_and_10() {
-    assert!(Listener::begun().hear(&second(1, 9)).is_ok());
-    assert!(Listener::fresh().hear(&second(1, 9)).is_ok());
+    for mut listener in [Listener::begun(), Listener::fresh()] {
+        // The last octet of the zone is 55, version 010.
+        let (_, packets, damaged) = listener.hear(&second(1, 9)).unwrap();
+        assert_eq!((packets, damaged), (vec![], Some(Damage::Version)));
+    }
     let mut listener = Listener::begun();
     assert_eq!(listener.hear(&second(1, 10)), Err(Refusal::Pointer));
     assert_eq!(listener.record, Record::InStep { last: 0, held: 2 });
@@ -144,7 +163,7 @@ fn pass_06_pointer_2047() {
     let mut listener = Listener::begun();
     let (entered, packets, damaged) = listener.hear(&second(1, NO_START)).unwrap();
     assert_eq!((entered.dropped, entered.reason), (2, Reason::Pointer));
-    assert_eq!((packets, damaged), (vec![], false));
+    assert_eq!((packets, damaged), (vec![], None));
     assert_eq!(listener.record, Record::OutOfStep { last: 1 });
 }
 
@@ -165,10 +184,10 @@ fn pass_07_the_wheel() {
 
 #[test]
 fn pass_08_three_headers() {
-    assert_eq!(read_header(1_024, &[0xE9, 0x01]), Ok(Look::Damaged));
+    assert_eq!(read_header(1_024, &[0xE9, 0x01]), Ok(Look::Damaged(Damage::BelowHeader)));
     let alone = Header { kind: Kind::Encapsulation { protocol: 2 }, length: 2, total: 2 };
     assert_eq!(read_header(1_024, &[0xE9, 0x02]), Ok(Look::Whole(alone)));
-    assert_eq!(read_header(1_024, &[0xEC]), Ok(Look::Damaged));
+    assert_eq!(read_header(1_024, &[0xEC]), Ok(Look::Damaged(Damage::NotIdle)));
 }
 
 #[test]
@@ -227,8 +246,9 @@ fn pass_12_the_longest_space_packet() {
         multiplexer::put(&settings, &mut multiplexer::Record::START.clone(), &packet, &mut frame)
     };
     assert!(put(65_542).is_ok());
-    assert_eq!(put(65_541), Err(Refusal::Packet));
-    assert_eq!(Refusal::Packet.number(), 8);
+    let over = Refusal::Packet(Some(Damage::OverLimit));
+    assert_eq!(put(65_541), Err(over));
+    assert_eq!(over.number(), 8);
 }
 
 #[test]

@@ -1,10 +1,10 @@
 //! Which refusal a call gives, and what it leaves behind.
 
 use itzahuemo_reference::calls::{Calls, Reference};
-use itzahuemo_reference::orders::{arguments, make, ORDERS};
+use itzahuemo_reference::orders::{arguments, damage, make, Order, NAMING, ORDERS};
 use itzahuemo_reference::reference::bitstream::{self, Reader, Writer};
 use itzahuemo_reference::reference::frame::Settings;
-use itzahuemo_reference::reference::packet::read_header;
+use itzahuemo_reference::reference::packet::{read_header, Damage};
 use itzahuemo_reference::reference::wrap::{unwrap, wrap};
 use itzahuemo_reference::reference::{extractor, judge, multiplexer, Refusal};
 
@@ -12,26 +12,41 @@ const CHANNEL: Settings =
     Settings { spacecraft: 66, channel: 3, zone: 10, limit: 64, fill: 0x55, trailer: false };
 
 /// For every set of refusals that could be given, the first in order is; and a
-/// refused call changes nothing but its answer, which it sets to zeros.
+/// refused call changes nothing but its answer, which it sets to zeros, but for the
+/// damage that refusal 8 names.
 #[test]
 fn the_first_in_order() {
     for (order, trailer) in ORDERS.iter().flat_map(|order| [(order, false), (order, true)]) {
         let possible: Vec<u64> = order.refusals(trailer).collect();
+        let damages = if NAMING.contains(&order.call) { 0..=4 } else { 0..=0 };
         for set in 0..1_u32 << possible.len() {
             let chosen = |place: &usize| set >> place & 1 == 1;
             let refusals: Vec<u64> =
                 (0..possible.len()).filter(chosen).map(|place| possible[place]).collect();
-            let lent = arguments(order.call, &refusals, trailer);
-            let mut after = lent.clone();
-            let refusal = make(&Reference, order.call, &mut after);
-            let first = refusals.first().copied().unwrap_or(0);
-            assert_eq!(refusal, first, "{} with {refusals:?}, trailer {trailer}", order.call);
-            if refusal != 0 {
-                assert!(after.answer.iter().all(|&number| number == 0));
-                after.answer.clone_from(&lent.answer);
-                assert_eq!(after, lent, "{} with {refusals:?}", order.call);
+            for damage in damages.clone() {
+                the_first_of(order, &refusals, trailer, damage);
             }
         }
+    }
+}
+
+fn the_first_of(order: &Order, refusals: &[u64], trailer: bool, number: u64) {
+    let mut lent = arguments(order.call, refusals, trailer);
+    damage(number, &mut lent);
+    let mut after = lent.clone();
+    let refusal = make(&Reference, order.call, &mut after);
+    let called_for = |refusal: &u64| refusals.contains(refusal) || *refusal == 8 && number != 0;
+    let first = order.refusals(trailer).find(called_for).unwrap_or(0);
+    let with = format!("{} with {refusals:?}, damage {number}, trailer {trailer}", order.call);
+    assert_eq!(refusal, first, "{with}");
+    if refusal != 0 {
+        let mut said = vec![0; lent.answer.len()];
+        if let Some(last) = said.last_mut() {
+            *last = if refusal == 8 { number } else { 0 };
+        }
+        assert_eq!(after.answer, said, "{with}");
+        after.answer.clone_from(&lent.answer);
+        assert_eq!(after, lent, "{with}");
     }
 }
 
@@ -78,11 +93,11 @@ fn wrapping() {
     for (protocol, extension) in [(0, 0), (8, 0), (255, 0), (6, 16), (5, 1), (7, 15), (0, 16)] {
         assert_eq!(wrap(64, protocol, extension, &[1], &mut out), Err(Refusal::Range));
     }
-    assert_eq!(wrap(64, 2, 0, &[], &mut []), Err(Refusal::Packet));
+    assert_eq!(wrap(64, 2, 0, &[], &mut []), Err(Refusal::Packet(None)));
     // Five octets of data make seven with the smallest header, and nine in protocol 6.
     assert_eq!(wrap(7, 2, 0, &[1; 5], &mut out), Ok(7));
-    assert_eq!(wrap(7, 2, 0, &[1; 6], &mut out), Err(Refusal::Packet));
-    assert_eq!(wrap(8, 6, 0, &[1; 5], &mut out), Err(Refusal::Packet));
+    assert_eq!(wrap(7, 2, 0, &[1; 6], &mut out), Err(Refusal::Packet(None)));
+    assert_eq!(wrap(8, 6, 0, &[1; 5], &mut out), Err(Refusal::Packet(None)));
     assert_eq!(wrap(9, 6, 15, &[1; 5], &mut out), Ok(9));
     assert_eq!(out[..4], [0xFA, 0x0F, 0x00, 0x09]);
     assert_eq!(wrap(64, 2, 0, &[1; 5], &mut out[..6]), Err(Refusal::Room));
@@ -110,13 +125,13 @@ fn unwrapping() {
     assert_eq!(held(&[0xEB, 0, 1, 0, 0, 0, 0, 8]), Err(Refusal::Spare));
     assert_eq!(held(&[0xFB, 0x0F, 0, 1, 0, 0, 0, 8]), Err(Refusal::Spare));
     // Not well-formed, not of the stated length, or a space packet.
-    assert_eq!(held(&[]), Err(Refusal::Packet));
-    assert_eq!(held(&[0xEC]), Err(Refusal::Packet));
-    assert_eq!(held(&[0xE9, 0x01]), Err(Refusal::Packet));
-    assert_eq!(held(&[0xE9, 0x03]), Err(Refusal::Packet));
-    assert_eq!(held(&[0xE9, 0x02, 0]), Err(Refusal::Packet));
-    assert_eq!(held(&[0xEA, 0x01, 0x00]), Err(Refusal::Packet));
-    assert_eq!(held(&[0x00, 0x05, 0xC0, 0x00, 0x00, 0x00, 7]), Err(Refusal::Packet));
+    assert_eq!(held(&[]), Err(Refusal::Packet(None)));
+    assert_eq!(held(&[0xEC]), Err(Refusal::Packet(Some(Damage::NotIdle))));
+    assert_eq!(held(&[0xE9, 0x01]), Err(Refusal::Packet(Some(Damage::BelowHeader))));
+    assert_eq!(held(&[0xE9, 0x03]), Err(Refusal::Packet(None)));
+    assert_eq!(held(&[0xE9, 0x02, 0]), Err(Refusal::Packet(None)));
+    assert_eq!(held(&[0xEA, 0x01, 0x00]), Err(Refusal::Packet(None)));
+    assert_eq!(held(&[0x00, 0x05, 0xC0, 0x00, 0x00, 0x00, 7]), Err(Refusal::Packet(None)));
 }
 
 /// What the multiplexer's flush makes of a record: refusal 10 or not.
@@ -163,7 +178,7 @@ fn multiplexer_moments() {
     let put = multiplexer::put(&CHANNEL, &mut record, &other, &mut frame);
     assert_eq!(put, Err(Refusal::Moment));
     let put = multiplexer::put(&CHANNEL, &mut record, &[0xFF; 11], &mut frame);
-    assert_eq!(put, Err(Refusal::Packet));
+    assert_eq!(put, Err(Refusal::Packet(Some(Damage::OverLimit))));
     let put = multiplexer::put(&CHANNEL, &mut record, &packet, &mut frame).unwrap();
     assert!(!put.full && put.taken);
     assert_eq!(multiplexer::idle(&CHANNEL, &mut record, &mut frame), Err(Refusal::Moment));
@@ -278,7 +293,9 @@ fn held_may_be_the_limit() {
     let mut next = frame.clone();
     next[4] = 1;
     let entered = extractor::enter(&settings, &mut record, &store, &next).unwrap();
-    assert_eq!((entered.dropped, entered.reason), (7, extractor::Reason::Damage));
+    // The length is EB.
+    let over = extractor::Reason::Damage(Damage::OverLimit);
+    assert_eq!((entered.dropped, entered.reason), (7, over));
 }
 
 /// A step on another frame follows the same rules on that frame.
@@ -299,7 +316,8 @@ fn a_step_on_another_frame() {
     assert_eq!(record, Record::Walking { last: 5, held: 0, at: 3 });
     assert_eq!(store[..7], [0xEA, 0x00, 0x00, 0x06, 1, 2, 0]);
     let (said, record, store) = step(held, &[0x03, 1, 2, 0xE0, 0xE0, 0xE0, 0xE0, 0xE0, 0xE0, 0xE0]);
-    assert_eq!((said, record), (Ok(Step::Damaged), Record::Leaving { last: 5 }));
+    let below = Step::Damaged(Damage::BelowHeader);
+    assert_eq!((said, record), (Ok(below), Record::Leaving { last: 5 }));
     assert_eq!(store[..4], [0xEA, 0x00, 0x00, 0]);
     let (said, record, store) = step(held, &[0x0E, 1, 2, 3, 4, 5, 6, 7, 8, 9]);
     assert_eq!((said, record), (Ok(Step::Spent), Record::InStep { last: 5, held: 13 }));
@@ -387,10 +405,10 @@ fn numbers_that_are_no_record() {
         [u64::MAX, 0, 0, 0],
         [1 << 8, 0, 0, 0],
     ] {
-        let (mut after, mut answer) = (record, [7; 6]);
+        let (mut after, mut answer) = (record, [7; 7]);
         let refusal =
             Reference.extractor_enter(&settings, &mut after, &[0; 64], &frame, &mut answer);
-        assert_eq!((refusal, after, answer), (10, record, [0; 6]));
+        assert_eq!((refusal, after, answer), (10, record, [0; 7]));
         let refusal =
             Reference.extractor_step(&settings, &mut after, &mut [0; 64], &frame, &mut answer);
         assert_eq!((refusal, after), (10, record));
@@ -492,7 +510,7 @@ fn numbers_out_of_range() {
         let mut record = [0, 0, 2_047, 0];
         assert_eq!(Reference.mux_idle(&settings, &mut record, &mut [0; 18]), 1);
     }
-    let mut answer = [7; 1];
+    let mut answer = [7; 2];
     for (protocol, extension) in [(256 + 2, 0), (2, 256), (u64::MAX, 0)] {
         assert_eq!(Reference.wrap(64, protocol, extension, &[1], &mut [0; 9], &mut answer), 1);
     }

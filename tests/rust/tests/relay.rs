@@ -3,9 +3,10 @@
 
 use std::collections::{BTreeMap, BTreeSet};
 
-use itzahuemo_reference::calls::{Calls, Reference, RELAY};
+use itzahuemo_reference::calls::{Calls, Reference, RELAY, ROUTED};
 use itzahuemo_reference::generate;
 use itzahuemo_reference::random::Random;
+use itzahuemo_reference::reference::packet::Damage;
 use itzahuemo_reference::reference::relay::{load, route, Entry, Table};
 use itzahuemo_reference::reference::Refusal;
 
@@ -62,12 +63,12 @@ fn source_001_three_relays() {
 fn source_001_rejections() {
     let pairs = [(4, 1)];
     assert_eq!(sent(&pairs, &packet(4)), Ok(vec![1]));
-    for rejected in [
-        [0x20, 0x04, 0xC0, 0x00, 0x00, 0x01, 0x01, 0x02],
-        [0x00, 0x04, 0xC0, 0x00, 0x00, 0x00, 0x01, 0x02],
-        [0x00, 0x04, 0xC0, 0x00, 0x00, 0x05, 0x01, 0x02],
+    for (rejected, damage) in [
+        ([0x20, 0x04, 0xC0, 0x00, 0x00, 0x01, 0x01, 0x02], Some(Damage::Version)),
+        ([0x00, 0x04, 0xC0, 0x00, 0x00, 0x00, 0x01, 0x02], None),
+        ([0x00, 0x04, 0xC0, 0x00, 0x00, 0x05, 0x01, 0x02], Some(Damage::OverLimit)),
     ] {
-        assert_eq!(sent(&pairs, &rejected), Err(Refusal::Packet));
+        assert_eq!(sent(&pairs, &rejected), Err(Refusal::Packet(damage)));
     }
     let idle = [0x07, 0xFF, 0xC0, 0x00, 0x00, 0x01, 0x01, 0x02];
     assert_eq!(sent(&pairs, &idle), NO_PATH);
@@ -150,21 +151,21 @@ fn encapsulation_packets() {
     ] {
         assert_eq!(sent(&pairs, packet), NO_PATH, "{packet:02x?}");
     }
-    for packet in [
-        &[][..],
-        &[0xEC],
-        &[0xE0, 0x00],
-        &[0xE9],
-        &[0xE9, 0x01],
-        &[0xE9, 0x03],
-        &[0xE9, 0x02, 0x00],
-        &[0xEA, 0x00, 0x00, 0x03],
-        &[0xE9, 0x0B, 1, 2, 3, 4, 5, 6, 7, 8, 9],
-        &[0x00, 0x05, 0xC0, 0x00, 0x00],
-        &[0x00, 0x05, 0xC0, 0x00, 0x00, 0x00],
-        &[0xC0, 0x05, 0xC0, 0x00, 0x00, 0x00, 0x01],
+    for (packet, damage) in [
+        (&[][..], None),
+        (&[0xEC], Some(Damage::NotIdle)),
+        (&[0xE0, 0x00], None),
+        (&[0xE9], None),
+        (&[0xE9, 0x01], Some(Damage::BelowHeader)),
+        (&[0xE9, 0x03], None),
+        (&[0xE9, 0x02, 0x00], None),
+        (&[0xEA, 0x00, 0x00, 0x03], Some(Damage::BelowHeader)),
+        (&[0xE9, 0x0B, 1, 2, 3, 4, 5, 6, 7, 8, 9], Some(Damage::OverLimit)),
+        (&[0x00, 0x05, 0xC0, 0x00, 0x00], None),
+        (&[0x00, 0x05, 0xC0, 0x00, 0x00, 0x00], None),
+        (&[0xC0, 0x05, 0xC0, 0x00, 0x00, 0x00, 0x01], Some(Damage::Version)),
     ] {
-        assert_eq!(sent(&pairs, packet), Err(Refusal::Packet), "{packet:02x?}");
+        assert_eq!(sent(&pairs, packet), Err(Refusal::Packet(damage)), "{packet:02x?}");
     }
 }
 
@@ -196,9 +197,10 @@ fn limits() {
     let mut longest = vec![0; 65_542];
     longest[..6].copy_from_slice(&[0x00, 0x05, 0xC0, 0x00, 0xFF, 0xFF]);
     assert_eq!(route(65_542, &table, &longest, &mut [0]), Ok(1));
-    assert_eq!(route(65_541, &table, &longest, &mut [0]), Err(Refusal::Packet));
+    let over = Refusal::Packet(Some(Damage::OverLimit));
+    assert_eq!(route(65_541, &table, &longest, &mut [0]), Err(over));
     assert_eq!(route(7, &table, &[0, 5, 0, 0, 0, 0, 1], &mut [0]), Ok(1));
-    assert_eq!(route(7, &table, &packet(5), &mut [0]), Err(Refusal::Packet));
+    assert_eq!(route(7, &table, &packet(5), &mut [0]), Err(over));
 }
 
 /// A table as numbers, with two behind it.
@@ -240,12 +242,12 @@ fn short_arrays() {
     assert_eq!(Reference.relay_load(&[5, 256], &mut table[1..]), 2);
     assert_eq!(Reference.relay_load(&[5, 256, 5], &mut table), 2);
     assert_eq!(table, [9; RELAY]);
-    let (mut out, mut answer) = ([0x77; 2], [9; 2]);
+    let (mut out, mut answer) = ([0x77; 2], [9; ROUTED]);
     assert_eq!(Reference.relay_route(6, &table[1..], &[], &mut out, &mut answer), 2);
     assert_eq!(Reference.relay_route(6, &table, &[], &mut out, &mut answer[1..]), 2);
-    assert_eq!((out, answer), ([0x77; 2], [9; 2]));
+    assert_eq!((out, answer), ([0x77; 2], [9; ROUTED]));
     assert_eq!(Reference.relay_route(6, &table, &[], &mut out, &mut answer), 1);
-    assert_eq!((out, answer), ([0x77; 2], [0; 2]));
+    assert_eq!((out, answer), ([0x77; 2], [0; ROUTED]));
 }
 
 /// One number of a loaded table changed: what the call then answers, and how many destinations
@@ -254,11 +256,11 @@ fn short_arrays() {
 fn tables_changed_by_hand() {
     let table = loaded(&[5, 7, 5, 9, 2_046, 255]);
     let routed = |place: usize, number| {
-        let (mut table, mut out, mut answer) = (table, [0x77; 4], [9; 2]);
+        let (mut table, mut out, mut answer) = (table, [0x77; 4], [9; ROUTED]);
         table[place] = number;
         let refusal = Reference.relay_route(10, &table, &packet(5), &mut out, &mut answer);
         if refusal != 0 {
-            assert_eq!((out, answer), ([0x77; 4], [0; 2]));
+            assert_eq!((out, answer), ([0x77; 4], [0; ROUTED]));
         }
         (refusal, answer[1])
     };
@@ -305,23 +307,31 @@ fn pairs_of(list: &[u64]) -> Result<Vec<(u64, u64)>, u64> {
     Ok(pairs)
 }
 
-/// The APID of a space packet that is not idle; nothing for another packet; 8 for none. A header that
-/// is cut states no length, and one that states less than itself none that is lent.
+/// The APID of a space packet that is not idle; nothing for another packet; the damage of what is
+/// none, or 0. A header that is cut states no length, and one that states less than itself none
+/// that is lent.
 fn apid_of(limit: usize, packet: &[u8]) -> Result<Option<u64>, u64> {
     let number = |first: usize, last: usize| {
         let octets = packet.get(first..=last)?;
         Some(octets.iter().fold(0, |number, &octet| number * 256 + usize::from(octet)))
     };
-    let total = match packet.first() {
-        Some(0x00..=0x1F) => number(4, 5).map(|field| field + 7),
-        Some(0xE0) => Some(1),
-        Some(first @ 0xE0..=0xFF) if first % 4 == 1 => number(1, 1),
-        Some(first @ 0xE0..=0xFF) if first % 4 == 2 => number(2, 3),
-        Some(first @ 0xE0..=0xFF) if first % 4 == 3 => number(4, 7),
-        _ => None,
+    let (header, total) = match packet.first() {
+        None => return Err(0),
+        Some(0x00..=0x1F) => (6, number(4, 5).map(|field| field + 7)),
+        Some(0xE0) => (1, Some(1)),
+        Some(first @ 0xE0..=0xFF) => match first % 4 {
+            1 => (2, number(1, 1)),
+            2 => (4, number(2, 3)),
+            3 => (8, number(4, 7)),
+            _ => return Err(2),
+        },
+        Some(_) => return Err(1),
     };
-    if total != Some(packet.len()) || packet.len() > limit {
-        return Err(8);
+    match total {
+        Some(total) if total < header => return Err(3),
+        Some(total) if total > limit => return Err(4),
+        Some(total) if total == packet.len() => {}
+        _ => return Err(0),
     }
     let name = number(0, 1).filter(|_| packet[0] < 0x20).map(|name| name as u64 % 2_048);
     Ok(name.filter(|&apid| apid != 2_047))
@@ -334,18 +344,23 @@ type Paths = BTreeMap<u64, Vec<u8>>;
 const LENT: [u8; 33] = [0x77; 33];
 
 /// What is said of a packet where so many octets are lent, and what they are then.
-fn said_of(limit: usize, paths: &Paths, packet: &[u8], size: usize) -> (u64, [u64; 2], [u8; 33]) {
+fn said_of(
+    limit: usize,
+    paths: &Paths,
+    packet: &[u8],
+    size: usize,
+) -> (u64, [u64; ROUTED], [u8; 33]) {
     let path = match apid_of(limit, packet) {
         Ok(apid) => apid.and_then(|apid| paths.get(&apid)),
-        Err(number) => return (number, [0; 2], LENT),
+        Err(damage) => return (8, [0, 0, damage], LENT),
     };
     let mut out = LENT;
     match path {
-        None => (0, [1, 0], out),
-        Some(path) if path.len() > size => (2, [0; 2], out),
+        None => (0, [1, 0, 0], out),
+        Some(path) if path.len() > size => (2, [0; ROUTED], out),
         Some(path) => {
             out[..path.len()].copy_from_slice(path);
-            (0, [2, path.len() as u64], out)
+            (0, [2, path.len() as u64, 0], out)
         }
     }
 }
@@ -375,12 +390,12 @@ fn any_table_and_packet() {
             let limit = random.pick(&[7, 8, 20, 65_542]);
             let packet = generate::relay_packet(&mut random, &table, limit);
             let size = random.pick(&[0, 1, 2, 32, 33]);
-            let (mut out, mut answer) = (LENT, [9; 2]);
+            let (mut out, mut answer) = (LENT, [9; ROUTED]);
             let lent = &mut out[..size];
             let refusal = Reference.relay_route(limit as u64, &table, &packet, lent, &mut answer);
             let expected = said_of(limit, &paths, &packet, size);
             assert_eq!((refusal, answer, out), expected, "{list:?} {packet:02x?}");
-            *met.entry(("route", refusal, answer[0])).or_insert(0) += 1;
+            *met.entry(("route", refusal, answer[0] + answer[2])).or_insert(0) += 1;
         }
     }
     for key in [
@@ -390,7 +405,12 @@ fn any_table_and_packet() {
         ("load", 12, 0),
         ("route", 0, 1),
         ("route", 0, 2),
+        // A refused packet has no outcome, so this is its damage.
         ("route", 8, 0),
+        ("route", 8, 1),
+        ("route", 8, 2),
+        ("route", 8, 3),
+        ("route", 8, 4),
         ("route", 2, 0),
     ] {
         assert!(met.get(&key).map_or(false, |&times| times > 100), "{key:?} of {met:?}");

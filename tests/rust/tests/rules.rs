@@ -1,8 +1,8 @@
 //! Whole frames and whole runs, read a second way.
 //!
-//! Here document 01's rules, with document 02's trailers and its loss flag, are
-//! taken over lists of octets, a frame at a time and a run at a time, with no
-//! record, store or walk; and the reference is held against them.
+//! Here document 01's rules, with document 02's trailers, its loss flag and its
+//! names of damage, are taken over lists of octets, a frame at a time and a run at a
+//! time, with no record, store or walk; and the reference is held against them.
 
 use std::collections::BTreeMap;
 
@@ -14,12 +14,12 @@ use itzahuemo_reference::reference::frame::Settings;
 use itzahuemo_reference::reference::judge::{self, Verdict};
 
 /// What the front of some octets is: the total length that a whole header states,
-/// nothing yet, or damage.
+/// nothing yet, or damage, with its number.
 #[derive(PartialEq)]
 enum Front {
     Total(usize),
     Nothing,
-    Damage,
+    Damage(u64),
 }
 
 fn number(octets: &[u8]) -> usize {
@@ -34,16 +34,17 @@ fn front(limit: usize, octets: &[u8]) -> Front {
         Some(first @ 0xE0..=0xFF) if first % 4 == 1 => (2, 1..2, 0),
         Some(first @ 0xE0..=0xFF) if first % 4 == 2 => (4, 2..4, 0),
         Some(first @ 0xE0..=0xFF) if first % 4 == 3 => (8, 4..8, 0),
-        Some(_) => return Front::Damage,
+        Some(0xE0..=0xFF) => return Front::Damage(2),
+        Some(0x20..=0xDF) => return Front::Damage(1),
     };
     if octets.len() < header {
         return Front::Nothing;
     }
     let total = number(&octets[places]) + add;
-    if total < header || total > limit {
-        Front::Damage
-    } else {
-        Front::Total(total)
+    match total {
+        _ if total < header => Front::Damage(3),
+        _ if total > limit => Front::Damage(4),
+        _ => Front::Total(total),
     }
 }
 
@@ -130,12 +131,12 @@ fn bit_header(settings: &bitstream::Settings, frame: &[u8]) -> Result<(usize, bo
 enum Event {
     Packet(Vec<u8>),
     Idle(Vec<u8>),
-    Damaged,
+    Damaged(u64),
 }
 
-/// What is said of a frame: refusal; or count, replay, lost, dropped, reason and
-/// the events.
-type Said = Result<(usize, bool, usize, usize, u64, Vec<Event>), u64>;
+/// What is said of a frame: refusal; or count, replay, lost, dropped, reason with
+/// its damage, and the events.
+type Said = Result<(usize, bool, usize, usize, (u64, u64), Vec<Event>), u64>;
 
 /// The rules' state: the last count, and the held octets if in step.
 #[derive(Clone, Debug, Default, PartialEq)]
@@ -151,26 +152,26 @@ fn said_of(settings: &Settings, state: &mut State, frame: &[u8]) -> Said {
     let lost = state.last.map_or(0, |last| (count + 2 * wheel - last - 1) % wheel);
     state.last = Some(count);
 
-    let mut reason = 0;
+    let mut reason = (0, 0);
     let mut octets = state.held.take();
     if lost != 0 {
-        reason = 1;
+        reason = (1, 0);
     } else if let Some(held) = &octets {
         let both = [held, zone].concat();
         let agreed = match front(settings.limit, &both) {
             _ if held.is_empty() => pointer == 0 || pointer == 2_046,
-            Front::Damage => {
-                reason = 3;
+            Front::Damage(damage) => {
+                reason = (3, damage);
                 true
             }
             Front::Total(total) if total - held.len() < zone.len() => pointer == total - held.len(),
             Front::Total(_) | Front::Nothing => pointer == 2_047,
         };
         if !agreed {
-            reason = 2;
+            reason = (2, 0);
         }
     }
-    let dropped = if reason == 0 { 0 } else { octets.take().map_or(0, |held| held.len()) };
+    let dropped = if reason.0 == 0 { 0 } else { octets.take().map_or(0, |held| held.len()) };
 
     // The octets to be cut into packets; none if the frame has nothing to say.
     let rest = match octets {
@@ -183,8 +184,8 @@ fn said_of(settings: &Settings, state: &mut State, frame: &[u8]) -> Said {
     if let Some(mut rest) = rest {
         loop {
             match front(settings.limit, &rest) {
-                Front::Damage => {
-                    events.push(Event::Damaged);
+                Front::Damage(damage) => {
+                    events.push(Event::Damaged(damage));
                     break;
                 }
                 Front::Total(total) if total <= rest.len() => {
@@ -216,10 +217,11 @@ fn heard(
         match extractor::step(settings, record, store, frame).map_err(|no| no.number())? {
             Step::Spent => {
                 let extractor::Entered { count, replay, lost, dropped, reason } = entered;
-                let reason = reason as u64;
+                let damage = reason.damage().map_or(0, |damage| damage.number());
+                let reason = (reason.number(), damage);
                 return Ok((count as usize, replay, lost as usize, dropped, reason, events));
             }
-            Step::Damaged => events.push(Event::Damaged),
+            Step::Damaged(damage) => events.push(Event::Damaged(damage.number())),
             Step::Packet { kind, part } => {
                 let shown = extractor::show(part, store, frame).to_vec();
                 let idle = kind.is_idle();
@@ -248,7 +250,7 @@ fn carried(settings: &Settings, frames: &[Vec<u8>]) -> Option<Vec<Vec<u8>>> {
     while place < octets.len() {
         let total = match front(settings.limit, &octets[place..]) {
             Front::Total(total) => total,
-            Front::Nothing | Front::Damage => return None,
+            Front::Nothing | Front::Damage(_) => return None,
         };
         packets.push(octets.get(place..place + total)?.to_vec());
         starts.push(place);
@@ -272,13 +274,17 @@ fn carried(settings: &Settings, frames: &[Vec<u8>]) -> Option<Vec<Vec<u8>>> {
     Some(packets)
 }
 
+fn is_damage(event: &Event) -> bool {
+    matches!(event, Event::Damaged(_))
+}
+
 /// The index of the first frame that cannot go on a run, as the rules of the
 /// extractor have it for one that began in step.
 fn first_fault(settings: &Settings, frames: &[Vec<u8>]) -> Option<usize> {
     let mut state = State { last: None, held: Some(vec![]) };
     for (index, frame) in frames.iter().enumerate() {
         match said_of(settings, &mut state, frame) {
-            Ok((.., 0, 0, 0, events)) if !events.contains(&Event::Damaged) => {}
+            Ok((.., 0, 0, (0, 0), events)) if !events.iter().any(is_damage) => {}
             _ => return Some(index),
         }
     }
@@ -294,13 +300,17 @@ fn verdict(settings: &Settings, frames: &[Vec<u8>]) -> Verdict {
     judge::close(settings, &record, &store).unwrap()
 }
 
-/// Runs, as they conform and spoilt in up to three ways.
+/// Runs, as they conform, with a damaged header, and spoilt in up to three ways.
 fn for_many_runs(mut look: impl FnMut(&Settings, &[Vec<u8>])) {
     for seed in 0..3_000 {
         let mut random = Random::new(0x5EED_0000 + seed);
         let settings = generate::settings(&mut random);
-        let mut frames = generate::run(&mut random, &settings, true).frames;
-        look(&settings, &frames);
+        let run = generate::run(&mut random, &settings, true);
+        look(&settings, &run.frames);
+        let mut damaged = run.clone();
+        generate::damage_header(&mut random, &settings, &mut damaged);
+        look(&settings, &damaged.frames);
+        let mut frames = run.frames;
         for _ in 0..3 {
             generate::spoil(&mut random, &settings, &mut frames);
             look(&settings, &frames);
@@ -311,8 +321,8 @@ fn for_many_runs(mut look: impl FnMut(&Settings, &[Vec<u8>])) {
 /// Each event of the extractor is the one that the rules give.
 #[test]
 fn events_are_those_of_the_rules() {
-    let mut reasons = [0; 4];
-    let mut refusals = BTreeMap::new();
+    let (mut reasons, mut damages, mut refusals) =
+        (BTreeMap::new(), BTreeMap::new(), BTreeMap::new());
     for_many_runs(|settings, frames| {
         let mut state = State::default();
         let mut record = extractor::Record::Fresh;
@@ -334,7 +344,14 @@ fn events_are_those_of_the_rules() {
             };
             assert_eq!(state, stands);
             match rules {
-                Ok((.., reason, _)) => reasons[reason as usize] += 1,
+                Ok((.., reason, events)) => {
+                    *reasons.entry(reason).or_insert(0) += 1;
+                    for event in events {
+                        if let Event::Damaged(damage) = event {
+                            *damages.entry(damage).or_insert(0) += 1;
+                        }
+                    }
+                }
                 Err(number) => {
                     assert_eq!(before, (record, store.clone()));
                     *refusals.entry(number).or_insert(0) += 1;
@@ -342,7 +359,11 @@ fn events_are_those_of_the_rules() {
             }
         }
     });
-    assert!(reasons.iter().all(|&times| times > 100), "{reasons:?}");
+    // A wrong first octet is damage in the zone where it stands, and never at entering.
+    assert!(reasons.keys().eq(&[(0, 0), (1, 0), (2, 0), (3, 3), (3, 4)]), "{reasons:?}");
+    assert!(reasons.values().all(|&times| times > 100), "{reasons:?}");
+    assert!(damages.keys().eq(&[1, 2, 3, 4]), "{damages:?}");
+    assert!(damages.values().all(|&times| times > 100), "{damages:?}");
     assert!(refusals.keys().eq(&[3, 4, 5, 6, 7, 13]), "{refusals:?}");
     assert!(refusals.values().all(|&times| times > 100), "{refusals:?}");
 }
@@ -367,7 +388,7 @@ fn the_judge_passes_what_carries_packets() {
                 .map(|event| match event {
                     Event::Packet(packet) => packet,
                     Event::Idle(packet) => packet,
-                    Event::Damaged => panic!("damage in a run that passed"),
+                    Event::Damaged(_) => panic!("damage in a run that passed"),
                 })
                 .collect();
             assert_eq!(handed, packets);

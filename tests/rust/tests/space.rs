@@ -2,7 +2,7 @@
 
 use itzahuemo_reference::generate;
 use itzahuemo_reference::random::Random;
-use itzahuemo_reference::reference::packet::{read_header, Kind, Look};
+use itzahuemo_reference::reference::packet::{read_header, Damage, Kind, Look};
 use itzahuemo_reference::reference::space::{read, write, Fields};
 use itzahuemo_reference::reference::Refusal;
 
@@ -36,16 +36,16 @@ fn each_field_at_its_place() {
     }
 }
 
-/// Every version but 000, and fewer than six octets, are 8; octets behind the
-/// header do not count.
+/// Every version but 000, and fewer than six octets, are 8, which names no damage
+/// here; octets behind the header do not count.
 #[test]
 fn what_is_not_read() {
     for version in 1..8 {
-        assert_eq!(read(&[version << 5, 0, 0, 0, 0, 0]), Err(Refusal::Packet));
+        assert_eq!(read(&[version << 5, 0, 0, 0, 0, 0]), Err(Refusal::Packet(None)));
     }
     let octets = [0x00, 0x05, 0xC0, 0x00, 0x00, 0x01, 0xAA, 0xBB];
     for size in 0..6 {
-        assert_eq!(read(&octets[..size]), Err(Refusal::Packet));
+        assert_eq!(read(&octets[..size]), Err(Refusal::Packet(None)));
     }
     assert_eq!(read(&octets), read(&octets[..6]));
 }
@@ -122,7 +122,7 @@ fn any_octets() {
                         assert!(header.total <= limit);
                     }
                     look => {
-                        assert_eq!(look, Ok(Look::Damaged));
+                        assert_eq!(look, Ok(Look::Damaged(Damage::OverLimit)));
                         assert!(fields.total() > limit);
                     }
                 }

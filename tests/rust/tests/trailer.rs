@@ -362,7 +362,7 @@ fn the_number_of_the_setting() {
     {
         let mut settings = channel;
         settings[5] = number;
-        let (mut record, mut answer) = ([0; 4], [7; 6]);
+        let (mut record, mut answer) = ([0; 4], [7; 7]);
         let refusal =
             Reference.extractor_enter(&settings, &mut record, &[0; 64], &FIRST, &mut answer);
         assert_eq!(refusal, expected, "{number}");
@@ -382,14 +382,14 @@ fn the_number_of_the_setting() {
         let refusal = Reference.bits_write(&settings, &mut [0], &[], 0, &mut [0; 20]);
         assert_eq!(refusal, ranged, "{number}");
     }
-    let mut answer = [7; 6];
+    let mut answer = [7; 7];
     let wrong = [256, 63, 0, 0, 256];
     assert_eq!(Reference.extractor_enter(&wrong, &mut [9; 4], &[], &[], &mut answer), 2);
     assert_eq!(Reference.bits_read(&wrong[..4], &mut [9; 3], &[], &mut answer), 2);
-    assert_eq!(answer, [7; 6]);
+    assert_eq!(answer, [7; 7]);
     // Bits start at octet 8 with a trailer too.
     assert_eq!(Reference.bits_read(&bit_channel, &mut [0; 3], &FIRST, &mut answer), 0);
-    assert_eq!(answer, [0, 0, 0, 1, 8, 1]);
+    assert_eq!(answer, [0, 0, 0, 1, 8, 1, 7]);
 }
 
 /// The longest frames: 2,056 octets of a packet channel and 2,057 of a bitstream channel.
