@@ -26,6 +26,7 @@ pub fn all() -> Vec<Case> {
     packets(&mut cases);
     splits(&mut cases);
     damage(&mut cases);
+    named_damage(&mut cases);
     zones(&mut cases);
     limits(&mut cases);
     idle_zones(&mut cases);
@@ -341,6 +342,113 @@ fn damage(cases: &mut Cases) {
             .frame(3, 1, &[0x02, 0xE0, 0xE0, 0xE0])
             .end(),
     );
+}
+
+/// A header of 2, 4, 6 or 8 octets that states this total; six are those of a space packet.
+fn stating(header: usize, total: usize) -> Vec<u8> {
+    let length = (total as u32).to_be_bytes();
+    match header {
+        2 => vec![0xE9, length[3]],
+        4 => vec![0xEA, 0, length[2], length[3]],
+        6 => {
+            let [high, low] = ((total - 7) as u16).to_be_bytes();
+            vec![0x00, 0x05, 0xC0, 0x00, high, low]
+        }
+        _ => [&[0xEB, 0, 0, 0][..], &length].concat(),
+    }
+}
+
+/// The headers that can state a length, each with the greatest total that it can state.
+const HEADERS: [(&str, usize, usize); 4] = [
+    ("two-octet", 2, 255),
+    ("four-octet", 4, 65_535),
+    ("space", 6, 65_542),
+    ("eight-octet", 8, 0xFFFF_FFFF),
+];
+
+/// Headers with each damage that there is under a limit: a wrong version and a packet of one octet
+/// that is not idle; lengths below each header, which a space packet has none of; and lengths over
+/// the limit.
+fn damaged_headers(limit: usize) -> Vec<(String, Vec<u8>)> {
+    let mut headers =
+        vec![("1-version".to_string(), vec![0x33]), ("2-one-octet-packet".to_string(), vec![0xEC])];
+    for (name, header, _) in HEADERS.iter().filter(|header| header.1 != 6) {
+        headers.push((format!("3-{name}-header"), stating(*header, header - 1)));
+    }
+    for (name, header, _) in HEADERS.iter().filter(|header| header.2 > limit) {
+        headers.push((format!("4-{name}-header"), stating(*header, limit + 1)));
+    }
+    headers
+}
+
+impl Run {
+    /// How many frames there are so far, which is the count of the next in a run without gaps.
+    fn count(&self) -> u32 {
+        let frames = self.octets.len() - setup_record(&self.settings).len();
+        (frames / (1 + self.settings.frame_length())) as u32
+    }
+
+    /// The next frame, with these octets in its zone and idle packets of one octet round them.
+    fn next(self, pointer: u16, at: usize, octets: &[u8]) -> Run {
+        let mut zone = vec![0xE0; self.settings.zone];
+        zone[at..at + octets.len()].copy_from_slice(octets);
+        let count = self.count();
+        self.frame(count, pointer, &zone)
+    }
+
+    /// Frames with a header from the start of a zone on, in as many zones as it takes. It goes on
+    /// in the others before anything starts there.
+    fn over_zones(self, header: &[u8]) -> Run {
+        let zone = self.settings.zone;
+        header.chunks(zone).enumerate().fold(self, |run, (place, part)| {
+            let behind = if part.len() < zone { part.len() as u16 } else { NO_START };
+            run.next(if place == 0 { 0 } else { behind }, 0, part)
+        })
+    }
+}
+
+/// The four damages, each in every octet in which it can be seen. That is the first of a header for
+/// 1 and 2, and the last of its length for 3 and 4, so only these two can come out of a header that
+/// lies across zones. There they show as reason 3, in a line that does not name them.
+fn named_damage(cases: &mut Cases) {
+    for (name, header) in damaged_headers(64) {
+        let zone = 12;
+        // Reached from the start of the zone, and at once.
+        let each = (0..=zone - header.len()).fold(Run::new(zone, 64), |run, at| {
+            run.next(0, at, &header).next(at as u16, at, &header)
+        });
+        cases.add(format!("damage-{name}-at-each-place"), each.end());
+        if header.len() > 1 {
+            let each = (1..header.len()).fold(Run::new(zone, 64), |run, size| {
+                let (held, rest) = header.split_at(size);
+                run.next(0, zone - size, held).next(rest.len() as u16, 0, rest)
+            });
+            cases.add(format!("damage-{name}-cut-after-each-octet"), each.end());
+        }
+    }
+    // All of them under the least limit of each small zone.
+    for zone in 1..=9 {
+        let limit = zone.max(7);
+        let headers = damaged_headers(limit);
+        let run =
+            headers.iter().fold(Run::new(zone, limit), |run, (_, header)| run.over_zones(header));
+        cases.add(format!("damage-of-each-kind-zone-{zone}-limit-{limit}"), run.end());
+    }
+    // The lengths round each header and round the limit, and the greatest that there is.
+    for limit in [7, 8, 10, 254, 255, 1_024, 4_095, 4_096] {
+        let mut run = Run::new(limit.min(10), limit);
+        for (_, header, most) in HEADERS {
+            let least = if header == 6 { 7 } else { 0 };
+            for total in [0, header - 1, header, limit - 1, limit, limit + 1, most] {
+                if (least..=most).contains(&total) {
+                    run = run.over_zones(&stating(header, total));
+                }
+            }
+        }
+        cases.add(format!("damage-of-lengths-limit-{limit}"), run.end());
+    }
+    let firsts = (0..=255).fold(Run::new(1, 7), |run, first| run.next(0, 0, &[first]));
+    cases.add("damage-every-first-octet", firsts.end());
 }
 
 fn zones(cases: &mut Cases) {

@@ -3,9 +3,10 @@
 use std::fs;
 use std::path::PathBuf;
 
-fn expect(name: &str, lines: &[&str]) {
+fn expect(name: &str, lines: &[impl AsRef<str>]) {
     let file = PathBuf::from(env!("CARGO_MANIFEST_DIR")).join(format!("../runs/{name}.out"));
     let output = fs::read_to_string(file).expect(name);
+    let lines: Vec<&str> = lines.iter().map(AsRef::as_ref).collect();
     assert_eq!(output.lines().collect::<Vec<_>>(), lines, "{name}");
     assert!(output.ends_with('\n'));
 }
@@ -37,7 +38,7 @@ fn sample_04() {
             "frame 0 lost 0 dropped 0 reason 0",
             "space 5 8",
             "frame 1 lost 0 dropped 2 reason 2",
-            "damaged",
+            "damaged 1",
             "fault 1",
         ],
     );
@@ -261,8 +262,8 @@ fn cut_frame() {
     );
 }
 
-/// Damage gives up the rest of the zone. 2,047 has nothing for an extractor out of
-/// step; at 3 an idle packet of two octets starts, whose second octet comes next.
+/// Damage gives up the rest of the zone; here it is the version, 001. 2,047 has nothing for an
+/// extractor out of step; at 3 an idle packet of two octets starts, whose second octet comes next.
 #[test]
 fn damage_until_a_start() {
     expect(
@@ -271,7 +272,7 @@ fn damage_until_a_start() {
             "setup 66 3 zone 4 limit 64",
             "frame 0 lost 0 dropped 0 reason 0",
             "idle 1",
-            "damaged",
+            "damaged 1",
             "frame 1 lost 0 dropped 0 reason 0",
             "frame 2 lost 0 dropped 0 reason 0",
             "frame 3 lost 0 dropped 0 reason 0",
@@ -318,7 +319,7 @@ fn damaged_length() {
             "setup 66 3 zone 20 limit 100",
             "frame 0 lost 0 dropped 0 reason 0",
             "space 4 7",
-            "damaged",
+            "damaged 4",
             "frame 1 lost 0 dropped 0 reason 0",
             "frame 2 lost 0 dropped 0 reason 0",
             "space 7 20",
@@ -326,6 +327,193 @@ fn damaged_length() {
             "fault 0",
         ],
     );
+}
+
+/// Each damage at each place of a zone of 12 octets, first with the idle packets before it and then
+/// started at: its name, its number, and the octets of the header that it is in.
+#[test]
+fn damage_at_each_place() {
+    for (name, number, header) in [
+        ("1-version", 1, 1),
+        ("2-one-octet-packet", 2, 1),
+        ("3-two-octet-header", 3, 2),
+        ("3-four-octet-header", 3, 4),
+        ("3-eight-octet-header", 3, 8),
+        ("4-two-octet-header", 4, 2),
+        ("4-four-octet-header", 4, 4),
+        ("4-space-header", 4, 6),
+        ("4-eight-octet-header", 4, 8),
+    ] {
+        let mut lines = vec!["setup 66 3 zone 12 limit 64".to_string()];
+        for at in 0..=12 - header {
+            lines.push(format!("frame {} lost 0 dropped 0 reason 0", 2 * at));
+            lines.extend(vec!["idle 1".to_string(); at]);
+            lines.push(format!("damaged {number}"));
+            lines.push(format!("frame {} lost 0 dropped 0 reason 0", 2 * at + 1));
+            lines.push(format!("damaged {number}"));
+        }
+        lines.push("fault 0".to_string());
+        expect(&format!("damage-{name}-at-each-place"), &lines);
+    }
+}
+
+/// A header cut after each of its octets by the end of a zone of 12 octets; it comes out damaged,
+/// and the pointer starts anew behind it.
+#[test]
+fn damage_cut_after_each_octet() {
+    for (name, header) in [
+        ("3-two-octet-header", 2),
+        ("3-four-octet-header", 4),
+        ("3-eight-octet-header", 8),
+        ("4-two-octet-header", 2),
+        ("4-four-octet-header", 4),
+        ("4-space-header", 6),
+        ("4-eight-octet-header", 8),
+    ] {
+        let mut lines = vec!["setup 66 3 zone 12 limit 64".to_string()];
+        for held in 1..header {
+            lines.push(format!("frame {} lost 0 dropped 0 reason 0", 2 * held - 2));
+            lines.extend(vec!["idle 1".to_string(); 12 - held]);
+            lines.push(format!("frame {} lost 0 dropped {held} reason 3", 2 * held - 1));
+            lines.extend(vec!["idle 1".to_string(); 12 - (header - held)]);
+        }
+        lines.push("fault 1".to_string());
+        expect(&format!("damage-{name}-cut-after-each-octet"), &lines);
+    }
+}
+
+/// 33; EC; E9 01; EA 00 00 03 and EB 00 00 00 00 00 00 07 in zones of two octets; and then 8, one
+/// past the limit, in headers of 2, 4, 6 and 8 octets. What has its length in its first zone is a
+/// damaged step. Behind the others no packet starts, so that the next pointer 0 finds the extractor
+/// out of step.
+#[test]
+fn each_damage_in_zones_of_two() {
+    expect(
+        "damage-of-each-kind-zone-2-limit-7",
+        &[
+            "setup 66 3 zone 2 limit 7",
+            "frame 0 lost 0 dropped 0 reason 0",
+            "damaged 1",
+            "frame 1 lost 0 dropped 0 reason 0",
+            "damaged 2",
+            "frame 2 lost 0 dropped 0 reason 0",
+            "damaged 3",
+            "frame 3 lost 0 dropped 0 reason 0",
+            "frame 4 lost 0 dropped 2 reason 3",
+            "frame 5 lost 0 dropped 0 reason 0",
+            "frame 6 lost 0 dropped 0 reason 0",
+            "frame 7 lost 0 dropped 0 reason 0",
+            "frame 8 lost 0 dropped 6 reason 3",
+            "frame 9 lost 0 dropped 0 reason 0",
+            "damaged 4",
+            "frame 10 lost 0 dropped 0 reason 0",
+            "frame 11 lost 0 dropped 2 reason 3",
+            "frame 12 lost 0 dropped 0 reason 0",
+            "frame 13 lost 0 dropped 0 reason 0",
+            "frame 14 lost 0 dropped 4 reason 3",
+            "frame 15 lost 0 dropped 0 reason 0",
+            "frame 16 lost 0 dropped 0 reason 0",
+            "frame 17 lost 0 dropped 0 reason 0",
+            "frame 18 lost 0 dropped 6 reason 3",
+            "fault 0",
+        ],
+    );
+}
+
+/// Lengths of 0, one below the header, the header, 254, 255, 256 and the greatest that there is, as
+/// far as the header can state them: the one of two octets never is over 255, and a space packet
+/// never below its header. Packets of 254 and 255 octets are no damage; their ten octets are held,
+/// and then dropped for the pointer 0.
+#[test]
+fn lengths_round_a_limit_of_255() {
+    expect(
+        "damage-of-lengths-limit-255",
+        &[
+            "setup 66 3 zone 10 limit 255",
+            "frame 0 lost 0 dropped 0 reason 0",
+            "damaged 3",
+            "frame 1 lost 0 dropped 0 reason 0",
+            "damaged 3",
+            "frame 2 lost 0 dropped 0 reason 0",
+            "encap 2 2",
+            "idle 1",
+            "idle 1",
+            "idle 1",
+            "idle 1",
+            "idle 1",
+            "idle 1",
+            "idle 1",
+            "idle 1",
+            "frame 3 lost 0 dropped 0 reason 0",
+            "frame 4 lost 0 dropped 10 reason 2",
+            "frame 5 lost 0 dropped 10 reason 2",
+            "frame 6 lost 0 dropped 10 reason 2",
+            "damaged 3",
+            "frame 7 lost 0 dropped 0 reason 0",
+            "damaged 3",
+            "frame 8 lost 0 dropped 0 reason 0",
+            "encap 2 4",
+            "idle 1",
+            "idle 1",
+            "idle 1",
+            "idle 1",
+            "idle 1",
+            "idle 1",
+            "frame 9 lost 0 dropped 0 reason 0",
+            "frame 10 lost 0 dropped 10 reason 2",
+            "frame 11 lost 0 dropped 10 reason 2",
+            "damaged 4",
+            "frame 12 lost 0 dropped 0 reason 0",
+            "damaged 4",
+            "frame 13 lost 0 dropped 0 reason 0",
+            "frame 14 lost 0 dropped 10 reason 2",
+            "frame 15 lost 0 dropped 10 reason 2",
+            "damaged 4",
+            "frame 16 lost 0 dropped 0 reason 0",
+            "damaged 4",
+            "frame 17 lost 0 dropped 0 reason 0",
+            "damaged 3",
+            "frame 18 lost 0 dropped 0 reason 0",
+            "damaged 3",
+            "frame 19 lost 0 dropped 0 reason 0",
+            "encap 2 8",
+            "idle 1",
+            "idle 1",
+            "frame 20 lost 0 dropped 0 reason 0",
+            "frame 21 lost 0 dropped 10 reason 2",
+            "frame 22 lost 0 dropped 10 reason 2",
+            "damaged 4",
+            "frame 23 lost 0 dropped 0 reason 0",
+            "damaged 4",
+            "fault 0",
+        ],
+    );
+}
+
+/// Zones of one octet with each value, and pointer 0. One that begins a longer header is held. The
+/// octet behind it, the next value, is then the length of a header of two octets, which is over the
+/// limit of seven; any other header is still cut, and the pointer should be 2,047.
+#[test]
+fn every_first_octet() {
+    let mut lines = vec!["setup 66 3 zone 1 limit 7".to_string()];
+    let mut held = None;
+    for first in 0x00..=0xFF {
+        let (dropped, reason) = match held {
+            None => (0, 0),
+            Some(before) if before >= 0xE0 && before % 4 == 1 => (1, 3),
+            Some(_) => (1, 2),
+        };
+        lines.push(format!("frame {first} lost 0 dropped {dropped} reason {reason}"));
+        held = None;
+        match first {
+            0x20..=0xDF => lines.push("damaged 1".to_string()),
+            0xE0 => lines.push("idle 1".to_string()),
+            0xE4 | 0xE8 | 0xEC | 0xF0 | 0xF4 | 0xF8 | 0xFC => lines.push("damaged 2".to_string()),
+            _ => held = Some(first),
+        }
+    }
+    lines.push("fault 1".to_string());
+    expect("damage-every-first-octet", &lines);
 }
 
 /// The low length octet 05 becomes 45: 69 + 7 = 76 octets, of which 13 are in the

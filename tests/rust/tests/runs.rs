@@ -29,17 +29,18 @@ fn files_are_those_of_the_cases() {
     assert_eq!(files.filter(of_a_case).count(), 2 * names.len(), "a file that no case makes");
 }
 
-/// Together the outputs have every kind of line, every reason, every refusal a
-/// frame of a run file can meet, and both verdicts.
+/// Together the outputs have every kind of line, every damage, every reason, every
+/// refusal a frame of a run file can meet, and both verdicts.
 #[test]
 fn outputs_have_every_kind_of_line() {
     let outputs: Vec<String> = cases::all().iter().map(|case| aosread(&case.octets)).collect();
     let lines: BTreeSet<&str> = outputs.iter().flat_map(|output| output.lines()).collect();
-    for start in
-        ["setup ", "frame ", "space ", "encap ", "idle ", "damaged", "refused ", "pass", "fault "]
-    {
+    for start in ["setup ", "frame ", "space ", "encap ", "idle ", "refused ", "pass", "fault "] {
         assert!(lines.iter().any(|line| line.starts_with(start)), "{start}");
     }
+    // Each damage is named, and nothing else is.
+    let damages = lines.iter().filter(|line| line.starts_with("damaged"));
+    assert!(damages.eq(&["damaged 1", "damaged 2", "damaged 3", "damaged 4"]));
     for refusal in 4..=7 {
         assert!(lines.contains(&*format!("refused {refusal}")));
     }
