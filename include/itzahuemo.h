@@ -11,8 +11,13 @@
  * say it lays into an array of numbers, its answer.
  *
  * Refusals. A refused call leaves the record and every octet as lent, and sets
- * all entries of its answer to 0. Entry 0 of an answer that names an outcome is
- * never 0 otherwise: 0 is "refused, nothing said".
+ * all entries of its answer to 0, but for one: with refusal 8 the entry for
+ * damage may say what is wrong with the header of the lent packet. Entry 0 of an
+ * answer that names an outcome is 0 with a refusal and never otherwise.
+ *
+ * Damage. What is wrong with a packet's header is one of enum itz_damage. The
+ * answers that can carry it have it as their last entry, ITZ_..._DAMAGE, and 0
+ * there otherwise.
  *
  * Arrays of numbers. Settings, records and answers are arrays of uint64_t. An
  * enum names the entries of each, and its last constant, ITZ_..._NUMBERS, says
@@ -83,8 +88,9 @@ enum itz_refusal {
     ITZ_REFUSED_SPARE = 6,    /* a spare bit is 1; or, unwrapping, an extension without
                                  protocol 6 or a reserved field that is not 0 */
     ITZ_REFUSED_POINTER = 7,  /* the frame's pointer is one that cannot be */
-    ITZ_REFUSED_PACKET = 8,   /* a lent packet is not well formed, a data unit is empty or would
-                                 pass the limit when wrapped, or octets hold no space header */
+    ITZ_REFUSED_PACKET = 8,   /* a lent packet is not well formed, or is a space packet and to be
+                                 unwrapped; a data unit is empty or would pass the limit when
+                                 wrapped; or octets hold no space header */
     ITZ_REFUSED_MOMENT = 9,   /* wrong moment for this call */
     ITZ_REFUSED_RECORD = 10,  /* the record, or the octets held in the store, are not ones that
                                  the calls can have left there */
@@ -92,6 +98,24 @@ enum itz_refusal {
     ITZ_REFUSED_TABLE = 12,   /* the entries make no relay table: they are more than 32, or one has
                                  an APID above 2046, or two are the same */
     ITZ_REFUSED_TRAILER = 13  /* the frame's trailer is not that of the octets before it */
+};
+
+/*
+ * What is wrong with a packet's header; at most one of these is. 1 and 2 are seen
+ * in the first octet, 3 and 4 once the header is whole.
+ *
+ * Refusal 8 of a lent packet names the damage of its header, also where something
+ * else is wrong with the packet. It carries ITZ_DAMAGE_NONE where the header has
+ * none: for an empty packet, a header that is cut, a packet whose length is not
+ * the stated one, a space packet to be unwrapped, and for a data unit that is
+ * empty or would pass the limit when wrapped.
+ */
+enum itz_damage {
+    ITZ_DAMAGE_NONE = 0,
+    ITZ_DAMAGE_VERSION = 1,       /* the version is neither 000 nor 111 */
+    ITZ_DAMAGE_NOT_IDLE = 2,      /* a packet of one octet is not idle: its protocol is not 0 */
+    ITZ_DAMAGE_BELOW_HEADER = 3,  /* the stated length is below that of the header itself */
+    ITZ_DAMAGE_OVER_LIMIT = 4     /* the total length is over the limit */
 };
 
 /*
@@ -135,12 +159,13 @@ enum {
  * Order of refusals: 1.
  */
 enum {
-    ITZ_HEADER_WHAT,   /* what was found; the entries below are 0 unless a header was */
-    ITZ_HEADER_KIND,   /* the kind of packet */
-    ITZ_HEADER_IDLE,   /* 1 for an idle packet (APID 2047, or protocol 0), else 0 */
-    ITZ_HEADER_KEY,    /* APID of a space packet, protocol of an encapsulation packet */
-    ITZ_HEADER_SIZE,   /* octets of the header */
-    ITZ_HEADER_TOTAL,  /* total length, header included */
+    ITZ_HEADER_WHAT,    /* what was found; the five entries below are 0 unless a header was */
+    ITZ_HEADER_KIND,    /* the kind of packet */
+    ITZ_HEADER_IDLE,    /* 1 for an idle packet (APID 2047, or protocol 0), else 0 */
+    ITZ_HEADER_KEY,     /* APID of a space packet, protocol of an encapsulation packet */
+    ITZ_HEADER_SIZE,    /* octets of the header */
+    ITZ_HEADER_TOTAL,   /* total length, header included */
+    ITZ_HEADER_DAMAGE,  /* with ITZ_HEADER_DAMAGED what is wrong, else 0 */
     ITZ_HEADER_NUMBERS
 };
 
@@ -161,6 +186,7 @@ ITZ_CALL uint64_t itz_read_header(uint64_t limit,
 
 /*
  * Tests whether `packet` is one whole packet within the limit, no octet more.
+ * Where it is not, itz_read_header tells whether the header is damaged, and how.
  *
  * Order of refusals: 1.
  */
@@ -186,7 +212,8 @@ ITZ_CALL uint64_t itz_well_formed(uint64_t limit,
  * Order of refusals: 1, 8, 2.
  */
 enum {
-    ITZ_WRAPPED_TOTAL,  /* total length of the packet written */
+    ITZ_WRAPPED_TOTAL,   /* total length of the packet written */
+    ITZ_WRAPPED_DAMAGE,  /* always 0: no packet is lent, and refusal 8 is of the data unit */
     ITZ_WRAPPED_NUMBERS
 };
 
@@ -206,6 +233,7 @@ enum {
     ITZ_UNWRAPPED_EXTENSION,  /* 0 where the header has none */
     ITZ_UNWRAPPED_START,      /* place in `packet` where the data unit begins, 1 at least */
     ITZ_UNWRAPPED_SIZE,       /* octets of the data unit */
+    ITZ_UNWRAPPED_DAMAGE,     /* what refusal 8 finds wrong with the packet's header, else 0 */
     ITZ_UNWRAPPED_NUMBERS
 };
 
@@ -296,8 +324,9 @@ ITZ_CALL uint64_t itz_mux_begin(uint64_t *record, size_t record_len);
  * already taken of it.
  */
 enum {
-    ITZ_PUT_FULL,   /* 1 when the zone is full and the frame is written, else 0 */
-    ITZ_PUT_TAKEN,  /* 1 when the whole packet has been taken, else 0 */
+    ITZ_PUT_FULL,    /* 1 when the zone is full and the frame is written, else 0 */
+    ITZ_PUT_TAKEN,   /* 1 when the whole packet has been taken, else 0 */
+    ITZ_PUT_DAMAGE,  /* what refusal 8 finds wrong with the packet's header, else 0 */
     ITZ_PUT_NUMBERS
 };
 
@@ -370,6 +399,8 @@ enum {
     ITZ_ENTERED_LOST,     /* frames missing between the last one and this */
     ITZ_ENTERED_DROPPED,  /* held octets that were dropped */
     ITZ_ENTERED_REASON,   /* why the frame does not go on from what came before */
+    ITZ_ENTERED_DAMAGE,   /* with ITZ_REASON_DAMAGED what is wrong with that header, else 0; it is
+                             the length, 3 or 4, as a wrong first octet is never held */
     ITZ_ENTERED_NUMBERS
 };
 
@@ -398,10 +429,11 @@ ITZ_CALL uint64_t itz_extractor_enter(const uint64_t *settings, size_t settings_
  * Order of refusals: 1, 2, 10, 9, 3. 9 is a step with no frame entered.
  */
 enum {
-    ITZ_STEP_WHAT,   /* what it was */
-    ITZ_STEP_PLACE,  /* the buffer where the packet lies */
-    ITZ_STEP_START,  /* place of its first octet in that buffer */
-    ITZ_STEP_SIZE,   /* its octets */
+    ITZ_STEP_WHAT,    /* what it was */
+    ITZ_STEP_PLACE,   /* the buffer where the packet lies */
+    ITZ_STEP_START,   /* place of its first octet in that buffer */
+    ITZ_STEP_SIZE,    /* its octets */
+    ITZ_STEP_DAMAGE,  /* with ITZ_STEP_DAMAGED what is wrong with the header, else 0 */
     ITZ_STEP_NUMBERS
 };
 
@@ -581,7 +613,8 @@ ITZ_CALL uint64_t itz_relay_load(const uint64_t *entries, size_t entries_len,
  */
 enum {
     ITZ_ROUTED_WHAT,
-    ITZ_ROUTED_COUNT,  /* destinations written, 1 at least with a path and 0 without */
+    ITZ_ROUTED_COUNT,   /* destinations written, 1 at least with a path and 0 without */
+    ITZ_ROUTED_DAMAGE,  /* what refusal 8 finds wrong with the packet's header, else 0 */
     ITZ_ROUTED_NUMBERS
 };
 

@@ -2,7 +2,7 @@
  * The names of include/itzahuemo.h against the library: every refusal, every
  * outcome and every entry of an array is met by a call and has its name's number.
  * An array of exactly the named number of entries is long enough, and a shorter
- * one is refused.
+ * one is refused; an answer is not written then.
  */
 #include "itzahuemo.h"
 
@@ -36,6 +36,16 @@ static void check(int holds, int line, const char *what)
 #define SHORT(name) name, sizeof name / sizeof name[0] - 1
 #define SIZED(octets) octets, sizeof octets
 
+static void each_is(const uint64_t *entries, size_t count, uint64_t number)
+{
+    for (size_t i = 0; i < count; i++)
+        IS(entries[i], number);
+}
+
+/* A call that is lent an array one entry short: nothing is told, and the answer is as it was. */
+#define UNTOLD(answer, call) \
+    (memset(answer, 0xA5, sizeof answer), IS(call, ITZ_REFUSED_ROOM), each_is(ARRAY(answer), 0xA5A5A5A5A5A5A5A5))
+
 static const uint8_t space[] = {0x10, 0x05, 0x80, 0x09, 0x00, 0x01, 0xAA, 0xBB};
 static const uint8_t wrapped[] = {0xFA, 0x05, 0x00, 0x06, 0xDD, 0xEE};
 
@@ -67,13 +77,12 @@ static void packets(void)
     uint64_t unwrapped[ITZ_UNWRAPPED_NUMBERS], unit[ITZ_UNIT_NUMBERS];
     uint8_t packet[sizeof wrapped];
 
-    IS(itz_read_header(LIMIT, SIZED(wrapped), SHORT(header)), ITZ_REFUSED_ROOM);
-    IS(itz_read_header(6, SIZED(wrapped), ARRAY(header)), ITZ_REFUSED_SETTING);
-    IS(header[ITZ_HEADER_WHAT], 0);
+    UNTOLD(header, itz_read_header(LIMIT, SIZED(wrapped), SHORT(header)));
+    IS(itz_read_header(6, SIZED(damaged), ARRAY(header)), ITZ_REFUSED_SETTING);
+    each_is(ARRAY(header), 0);
     IS(itz_read_header(LIMIT, NULL, 0, ARRAY(header)), ITZ_ACCEPTED);
     IS(header[ITZ_HEADER_WHAT], ITZ_HEADER_MORE);
-    IS(itz_read_header(LIMIT, SIZED(damaged), ARRAY(header)), ITZ_ACCEPTED);
-    IS(header[ITZ_HEADER_WHAT], ITZ_HEADER_DAMAGED);
+    each_is(header + 1, ITZ_HEADER_NUMBERS - 1, 0);
     IS(itz_read_header(LIMIT, SIZED(idle), ARRAY(header)), ITZ_ACCEPTED);
     IS(header[ITZ_HEADER_IDLE], 1);
     IS(itz_read_header(LIMIT, SIZED(space), ARRAY(header)), ITZ_ACCEPTED);
@@ -86,27 +95,35 @@ static void packets(void)
     IS(header[ITZ_HEADER_KEY], 6);
     IS(header[ITZ_HEADER_SIZE], 4);
     IS(header[ITZ_HEADER_TOTAL], sizeof wrapped);
+    IS(header[ITZ_HEADER_DAMAGE], ITZ_DAMAGE_NONE);
 
-    IS(itz_well_formed(LIMIT, SIZED(space), SHORT(formed)), ITZ_REFUSED_ROOM);
+    UNTOLD(formed, itz_well_formed(LIMIT, SIZED(space), SHORT(formed)));
     IS(itz_well_formed(LIMIT, SIZED(space), ARRAY(formed)), ITZ_ACCEPTED);
     IS(formed[ITZ_FORMED_WHAT], ITZ_FORMED);
     IS(itz_well_formed(LIMIT, SIZED(damaged), ARRAY(formed)), ITZ_ACCEPTED);
     IS(formed[ITZ_FORMED_WHAT], ITZ_NOT_FORMED);
 
-    IS(itz_wrap(LIMIT, 6, 5, wrapped + 4, 2, SIZED(packet), SHORT(written)), ITZ_REFUSED_ROOM);
+    UNTOLD(written, itz_wrap(LIMIT, 6, 5, wrapped + 4, 2, SIZED(packet), SHORT(written)));
     IS(itz_wrap(LIMIT, 6, 5, NULL, 0, SIZED(packet), ARRAY(written)), ITZ_REFUSED_PACKET);
+    each_is(ARRAY(written), 0);
+    IS(itz_wrap(7, 6, 5, wrapped, 4, SIZED(packet), ARRAY(written)), ITZ_REFUSED_PACKET);
+    each_is(ARRAY(written), 0);
     IS(itz_wrap(LIMIT, 6, 5, wrapped + 4, 2, SIZED(packet), ARRAY(written)), ITZ_ACCEPTED);
     IS(written[ITZ_WRAPPED_TOTAL], sizeof wrapped);
+    IS(written[ITZ_WRAPPED_DAMAGE], 0);
     HOLDS(memcmp(packet, wrapped, sizeof wrapped) == 0);
 
-    IS(itz_unwrap(LIMIT, SIZED(wrapped), SHORT(unwrapped)), ITZ_REFUSED_ROOM);
+    UNTOLD(unwrapped, itz_unwrap(LIMIT, SIZED(wrapped), SHORT(unwrapped)));
     IS(itz_unwrap(LIMIT, SIZED(extended), ARRAY(unwrapped)), ITZ_REFUSED_SPARE);
+    each_is(ARRAY(unwrapped), 0);
     IS(itz_unwrap(LIMIT, SIZED(wrapped), ARRAY(unwrapped)), ITZ_ACCEPTED);
     IS(unwrapped[ITZ_UNWRAPPED_PROTOCOL], 6);
     IS(unwrapped[ITZ_UNWRAPPED_EXTENSION], 5);
     IS(unwrapped[ITZ_UNWRAPPED_START], 4);
     IS(unwrapped[ITZ_UNWRAPPED_SIZE], 2);
-    IS(itz_unit_part(ARRAY(unwrapped), SIZED(wrapped), SHORT(unit)), ITZ_REFUSED_ROOM);
+    IS(unwrapped[ITZ_UNWRAPPED_DAMAGE], ITZ_DAMAGE_NONE);
+    UNTOLD(unit, itz_unit_part(SHORT(unwrapped), SIZED(wrapped), ARRAY(unit)));
+    UNTOLD(unit, itz_unit_part(ARRAY(unwrapped), SIZED(wrapped), SHORT(unit)));
     IS(itz_unit_part(ARRAY(unwrapped), SIZED(wrapped), ARRAY(unit)), ITZ_ACCEPTED);
     IS(unit[ITZ_UNIT_START], 4);
     IS(unit[ITZ_UNIT_SIZE], 2);
@@ -117,8 +134,9 @@ static void space_headers(void)
     uint64_t read[ITZ_SPACE_NUMBERS], header[ITZ_SPACE_HEADER_NUMBERS];
     uint8_t octets[6];
 
-    IS(itz_read_space(SIZED(space), SHORT(read)), ITZ_REFUSED_ROOM);
+    UNTOLD(read, itz_read_space(SIZED(space), SHORT(read)));
     IS(itz_read_space(SIZED(wrapped), ARRAY(read)), ITZ_REFUSED_PACKET);
+    each_is(ARRAY(read), 0);
     IS(itz_read_space(SIZED(space), ARRAY(read)), ITZ_ACCEPTED);
     IS(read[ITZ_SPACE_TOTAL], 8);
     IS(read[ITZ_SPACE_VERSION], 0);
@@ -148,9 +166,9 @@ static void multiplexer(void)
 
     IS(itz_mux_begin(SHORT(mux)), ITZ_REFUSED_ROOM);
     IS(itz_mux_begin(ARRAY(mux)), ITZ_ACCEPTED);
-    IS(itz_mux_put(SHORT(settings), ARRAY(mux), SIZED(space), SIZED(frame), ARRAY(put)), ITZ_REFUSED_ROOM);
-    IS(itz_mux_put(ARRAY(settings), ARRAY(mux), SIZED(space), SIZED(frame), SHORT(put)), ITZ_REFUSED_ROOM);
-    IS(itz_mux_flush(ARRAY(settings), ARRAY(mux), SIZED(frame), SHORT(flushed)), ITZ_REFUSED_ROOM);
+    UNTOLD(put, itz_mux_put(SHORT(settings), ARRAY(mux), SIZED(space), SIZED(frame), ARRAY(put)));
+    UNTOLD(put, itz_mux_put(ARRAY(settings), ARRAY(mux), SIZED(space), SIZED(frame), SHORT(put)));
+    UNTOLD(flushed, itz_mux_flush(ARRAY(settings), ARRAY(mux), SIZED(frame), SHORT(flushed)));
     IS(itz_mux_flush(ARRAY(settings), ARRAY(mux), SIZED(frame), ARRAY(flushed)), ITZ_ACCEPTED);
     IS(flushed[ITZ_FLUSH_WHAT], ITZ_FLUSH_NOTHING);
     IS(itz_mux_idle(ARRAY(settings), ARRAY(mux), SIZED(frame)), ITZ_ACCEPTED);
@@ -160,6 +178,7 @@ static void multiplexer(void)
     IS(itz_mux_put(ARRAY(settings), ARRAY(mux), SIZED(space), SIZED(frame), ARRAY(put)), ITZ_ACCEPTED);
     IS(put[ITZ_PUT_FULL], 0);
     IS(put[ITZ_PUT_TAKEN], 1);
+    IS(put[ITZ_PUT_DAMAGE], ITZ_DAMAGE_NONE);
     IS(mux[ITZ_MUX_FILLED], 8);
     IS(mux[ITZ_MUX_FIRST], 0);
     IS(itz_mux_idle(ARRAY(settings), ARRAY(mux), SIZED(frame)), ITZ_REFUSED_MOMENT);
@@ -201,17 +220,23 @@ static void finds(uint64_t what, uint64_t place, uint64_t start, uint64_t size)
     IS(step[ITZ_STEP_PLACE], place);
     IS(step[ITZ_STEP_START], start);
     IS(step[ITZ_STEP_SIZE], size);
+    IS(step[ITZ_STEP_DAMAGE] != ITZ_DAMAGE_NONE, what == ITZ_STEP_DAMAGED);
     IS(itz_show(ARRAY(step), SIZED(frame), SIZED(store), ARRAY(shown)), ITZ_ACCEPTED);
     IS(shown[ITZ_SHOWN_PLACE], place);
     IS(shown[ITZ_SHOWN_START], start);
     IS(shown[ITZ_SHOWN_SIZE], size);
 }
 
-/* From the sample's first frame on to its second, spoilt: how it is entered. */
-static void second_is(size_t at, uint8_t octet, uint64_t refusal, uint64_t reason)
+static void begin(void)
 {
     static const uint64_t start[ITZ_EXTRACTOR_NUMBERS] = ITZ_EXTRACTOR_START;
     memcpy(extractor, start, sizeof start);
+}
+
+/* From the sample's first frame on to its second, spoilt: how it is entered. */
+static void second_is(size_t at, uint8_t octet, uint64_t refusal, uint64_t reason)
+{
+    begin();
     sample(frame, 0, 0, 0x50);
     IS(enter(), ITZ_ACCEPTED);
     finds(ITZ_STEP_PACKET, ITZ_IN_FRAME, 8, 8);
@@ -224,16 +249,17 @@ static void second_is(size_t at, uint8_t octet, uint64_t refusal, uint64_t reaso
     IS(enter(), refusal);
     IS(entered[ITZ_ENTERED_WHAT], refusal == ITZ_ACCEPTED ? ITZ_ENTERED : 0);
     IS(entered[ITZ_ENTERED_REASON], reason);
+    IS(entered[ITZ_ENTERED_DAMAGE], ITZ_DAMAGE_NONE);
 }
 
 static void extracting(void)
 {
-    IS(itz_extractor_enter(SHORT(settings), ARRAY(extractor), SIZED(store), SIZED(frame), ARRAY(entered)), ITZ_REFUSED_ROOM);
-    IS(itz_extractor_enter(ARRAY(settings), SHORT(extractor), SIZED(store), SIZED(frame), ARRAY(entered)), ITZ_REFUSED_ROOM);
-    IS(itz_extractor_enter(ARRAY(settings), ARRAY(extractor), SIZED(store), SIZED(frame), SHORT(entered)), ITZ_REFUSED_ROOM);
-    IS(itz_extractor_step(ARRAY(settings), ARRAY(extractor), SIZED(store), SIZED(frame), SHORT(step)), ITZ_REFUSED_ROOM);
-    IS(itz_show(SHORT(step), SIZED(frame), SIZED(store), ARRAY(shown)), ITZ_REFUSED_ROOM);
-    IS(itz_show(ARRAY(step), SIZED(frame), SIZED(store), SHORT(shown)), ITZ_REFUSED_ROOM);
+    UNTOLD(entered, itz_extractor_enter(SHORT(settings), ARRAY(extractor), SIZED(store), SIZED(frame), ARRAY(entered)));
+    UNTOLD(entered, itz_extractor_enter(ARRAY(settings), SHORT(extractor), SIZED(store), SIZED(frame), ARRAY(entered)));
+    UNTOLD(entered, itz_extractor_enter(ARRAY(settings), ARRAY(extractor), SIZED(store), SIZED(frame), SHORT(entered)));
+    UNTOLD(step, itz_extractor_step(ARRAY(settings), ARRAY(extractor), SIZED(store), SIZED(frame), SHORT(step)));
+    UNTOLD(shown, itz_show(SHORT(step), SIZED(frame), SIZED(store), ARRAY(shown)));
+    UNTOLD(shown, itz_show(ARRAY(step), SIZED(frame), SIZED(store), SHORT(shown)));
 
     second_is(0, 0x10, ITZ_REFUSED_VERSION, 0);
     second_is(1, 0x84, ITZ_REFUSED_CHANNEL, 0);
@@ -243,6 +269,7 @@ static void extracting(void)
 
     second_is(7, 0x02, ITZ_ACCEPTED, ITZ_REASON_POINTER);
     finds(ITZ_STEP_DAMAGED, ITZ_NOWHERE, 0, 0);
+    IS(step[ITZ_STEP_DAMAGE], ITZ_DAMAGE_VERSION);
     IS(extractor[ITZ_EXTRACTOR_KIND], 4);
     finds(ITZ_STEP_SPENT, ITZ_NOWHERE, 0, 0);
     IS(extractor[ITZ_EXTRACTOR_KIND], 1);
@@ -260,20 +287,144 @@ static void extracting(void)
     finds(ITZ_STEP_IDLE, ITZ_IN_FRAME, 11, 7);
     finds(ITZ_STEP_SPENT, ITZ_NOWHERE, 0, 0);
 
-    /* A header that the next zone makes a damaged one: four octets, and a length of 3. */
-    sample(frame, 0, 17, 0xEA);
-    frame[4] = 2;
-    frame[16] = 0xE0;
-    IS(enter(), ITZ_ACCEPTED);
-    while (step[ITZ_STEP_WHAT] != ITZ_STEP_SPENT || extractor[ITZ_EXTRACTOR_KIND] == 3)
-        IS(itz_extractor_step(ARRAY(settings), ARRAY(extractor), SIZED(store), SIZED(frame), ARRAY(step)), ITZ_ACCEPTED);
-    sample(frame, 1, 4, 3);
-    frame[8] = 0, frame[9] = 0, frame[10] = 3;
-    IS(enter(), ITZ_ACCEPTED);
-    IS(entered[ITZ_ENTERED_REASON], ITZ_REASON_DAMAGED);
-
     extractor[ITZ_EXTRACTOR_KIND] = 5;
     IS(enter(), ITZ_REFUSED_RECORD);
+}
+
+/* An answer that has the damage as its last entry, and 0 before it. */
+static void carries(const uint64_t *answer, size_t count, uint64_t damage)
+{
+    each_is(answer, count - 1, 0);
+    IS(answer[count - 1], damage);
+}
+
+/* What refusal 8 carries of a packet, from each call that is lent one. */
+static void refused_with(uint64_t damage, const uint8_t *packet, size_t size)
+{
+    uint64_t mux[ITZ_MUX_NUMBERS], put[ITZ_PUT_NUMBERS], unwrapped[ITZ_UNWRAPPED_NUMBERS], unit[ITZ_UNIT_NUMBERS];
+    uint64_t table[ITZ_RELAY_NUMBERS] = ITZ_RELAY_START, routed[ITZ_ROUTED_NUMBERS];
+
+    IS(itz_mux_begin(ARRAY(mux)), ITZ_ACCEPTED);
+    IS(itz_mux_put(ARRAY(settings), ARRAY(mux), packet, size, SIZED(frame), ARRAY(put)), ITZ_REFUSED_PACKET);
+    IS(put[ITZ_PUT_DAMAGE], damage);
+    carries(ARRAY(put), damage);
+    IS(itz_unwrap(LIMIT, packet, size, ARRAY(unwrapped)), ITZ_REFUSED_PACKET);
+    IS(unwrapped[ITZ_UNWRAPPED_DAMAGE], damage);
+    carries(ARRAY(unwrapped), damage);
+    IS(itz_unit_part(ARRAY(unwrapped), packet, size, ARRAY(unit)), ITZ_ACCEPTED);
+    each_is(ARRAY(unit), 0);
+    IS(itz_relay_route(LIMIT, ARRAY(table), packet, size, NULL, 0, ARRAY(routed)), ITZ_REFUSED_PACKET);
+    IS(routed[ITZ_ROUTED_DAMAGE], damage);
+    carries(ARRAY(routed), damage);
+}
+
+/* A damaged header, with or without octets behind it: as the reader finds it, as a lent packet, and at the front of a zone. */
+static void damaged_by(uint64_t damage, const uint8_t *octets, size_t size)
+{
+    uint64_t header[ITZ_HEADER_NUMBERS];
+
+    IS(itz_read_header(LIMIT, octets, size, ARRAY(header)), ITZ_ACCEPTED);
+    IS(header[ITZ_HEADER_WHAT], ITZ_HEADER_DAMAGED);
+    IS(header[ITZ_HEADER_DAMAGE], damage);
+    carries(header + 1, ITZ_HEADER_NUMBERS - 1, damage);
+
+    refused_with(damage, octets, size);
+
+    begin();
+    sample(frame, 0, 0, 0x50);
+    memcpy(frame + 8, octets, size < ZONE ? size : ZONE);
+    IS(enter(), ITZ_ACCEPTED);
+    finds(ITZ_STEP_DAMAGED, ITZ_NOWHERE, 0, 0);
+    IS(step[ITZ_STEP_DAMAGE], damage);
+    finds(ITZ_STEP_SPENT, ITZ_NOWHERE, 0, 0);
+}
+
+/* Lays three octets at the front of the sample's second frame: what a held EA makes a header of four octets with this length. */
+static void second_states(uint8_t high, uint8_t low)
+{
+    sample(frame, 1, 8, 0);
+    frame[9] = high;
+    frame[10] = low;
+}
+
+/* Holds the first octet of that header. */
+static void hold(void)
+{
+    begin();
+    sample(frame, 0, 17, 0xEA);
+    frame[16] = 0xE0;
+    IS(enter(), ITZ_ACCEPTED);
+    IS(entered[ITZ_ENTERED_DAMAGE], ITZ_DAMAGE_NONE);
+    finds(ITZ_STEP_PACKET, ITZ_IN_FRAME, 8, 8);
+    finds(ITZ_STEP_IDLE, ITZ_IN_FRAME, 16, 1);
+    finds(ITZ_STEP_SPENT, ITZ_NOWHERE, 0, 0);
+}
+
+/* A length that damages the held header: in the frame that is entered, and in another that is lent to the step. */
+static void held_damaged_by(uint64_t damage, uint8_t high, uint8_t low)
+{
+    hold();
+    second_states(high, low);
+    IS(enter(), ITZ_ACCEPTED);
+    IS(entered[ITZ_ENTERED_DROPPED], 1);
+    IS(entered[ITZ_ENTERED_REASON], ITZ_REASON_DAMAGED);
+    IS(entered[ITZ_ENTERED_DAMAGE], damage);
+    finds(ITZ_STEP_IDLE, ITZ_IN_FRAME, 11, 7);
+
+    hold();
+    second_states(0, 4);
+    IS(enter(), ITZ_ACCEPTED);
+    IS(entered[ITZ_ENTERED_REASON], ITZ_REASON_NONE);
+    second_states(high, low);
+    finds(ITZ_STEP_DAMAGED, ITZ_NOWHERE, 0, 0);
+    IS(step[ITZ_STEP_DAMAGE], damage);
+}
+
+static void damages(void)
+{
+    static const uint8_t version[] = {0x33, 0x05}, not_idle[] = {0xEC, 0x05};
+    static const uint8_t below_two[] = {0xE9, 0x01}, below_four[] = {0xEA, 0, 0, 3}, below_eight[] = {0xEB, 0, 0, 0, 0, 0, 0, 7};
+    static const uint8_t over_four[] = {0xEA, 0, 0x04, 0x01}, over_eight[] = {0xEB, 0, 0, 0, 0xFF, 0xFF, 0xFF, 0xFF};
+    static const uint8_t over_space[LIMIT + 1] = {0x00, 0x05, 0xC0, 0x00, 0x03, 0xFA};
+    static const uint8_t longer[] = {0xE9, 0x02, 0x11};
+    uint64_t unwrapped[ITZ_UNWRAPPED_NUMBERS], routed[ITZ_ROUTED_NUMBERS], put[ITZ_PUT_NUMBERS];
+    uint64_t table[ITZ_RELAY_NUMBERS] = ITZ_RELAY_START, mux[ITZ_MUX_NUMBERS];
+
+    damaged_by(ITZ_DAMAGE_VERSION, version, 1);
+    damaged_by(ITZ_DAMAGE_VERSION, SIZED(version));
+    damaged_by(ITZ_DAMAGE_NOT_IDLE, not_idle, 1);
+    damaged_by(ITZ_DAMAGE_NOT_IDLE, SIZED(not_idle));
+    damaged_by(ITZ_DAMAGE_BELOW_HEADER, SIZED(below_two));
+    damaged_by(ITZ_DAMAGE_BELOW_HEADER, SIZED(below_four));
+    damaged_by(ITZ_DAMAGE_BELOW_HEADER, SIZED(below_eight));
+    damaged_by(ITZ_DAMAGE_OVER_LIMIT, SIZED(over_four));
+    damaged_by(ITZ_DAMAGE_OVER_LIMIT, SIZED(over_eight));
+    damaged_by(ITZ_DAMAGE_OVER_LIMIT, over_space, 6);
+    damaged_by(ITZ_DAMAGE_OVER_LIMIT, SIZED(over_space));
+    held_damaged_by(ITZ_DAMAGE_BELOW_HEADER, 0x00, 0x03);
+    held_damaged_by(ITZ_DAMAGE_OVER_LIMIT, 0x04, 0x01);
+
+    /* Nothing is damaged: an empty packet, headers that are cut, packets of another length, and a space packet to be unwrapped. */
+    refused_with(ITZ_DAMAGE_NONE, NULL, 0);
+    refused_with(ITZ_DAMAGE_NONE, space, 5);
+    refused_with(ITZ_DAMAGE_NONE, wrapped, 3);
+    refused_with(ITZ_DAMAGE_NONE, over_four, 3);
+    refused_with(ITZ_DAMAGE_NONE, SHORT(space));
+    refused_with(ITZ_DAMAGE_NONE, SHORT(wrapped));
+    refused_with(ITZ_DAMAGE_NONE, SIZED(longer));
+    IS(itz_unwrap(LIMIT, SIZED(space), ARRAY(unwrapped)), ITZ_REFUSED_PACKET);
+    carries(ARRAY(unwrapped), ITZ_DAMAGE_NONE);
+
+    /* A refusal that comes before 8 carries none. */
+    IS(itz_unwrap(6, SIZED(version), ARRAY(unwrapped)), ITZ_REFUSED_SETTING);
+    each_is(ARRAY(unwrapped), 0);
+    table[ITZ_RELAY_COUNT] = 33;
+    IS(itz_relay_route(LIMIT, ARRAY(table), SIZED(version), NULL, 0, ARRAY(routed)), ITZ_REFUSED_RECORD);
+    each_is(ARRAY(routed), 0);
+    IS(itz_mux_begin(ARRAY(mux)), ITZ_ACCEPTED);
+    mux[ITZ_MUX_TAKEN] = 2;
+    IS(itz_mux_put(ARRAY(settings), ARRAY(mux), SIZED(version), SIZED(frame), ARRAY(put)), ITZ_REFUSED_MOMENT);
+    each_is(ARRAY(put), 0);
 }
 
 static uint64_t judged(uint64_t *record)
@@ -288,7 +439,7 @@ static void judging(void)
 
     sample(frame, 0, 0, 0x50);
     IS(itz_judge_frame(ARRAY(settings), SHORT(record), SIZED(store), SIZED(frame)), ITZ_REFUSED_ROOM);
-    IS(itz_judge_close(ARRAY(settings), ARRAY(record), SIZED(store), SHORT(verdict)), ITZ_REFUSED_ROOM);
+    UNTOLD(verdict, itz_judge_close(ARRAY(settings), ARRAY(record), SIZED(store), SHORT(verdict)));
     IS(itz_judge_close(ARRAY(settings), ARRAY(record), SIZED(store), ARRAY(verdict)), ITZ_ACCEPTED);
     IS(verdict[ITZ_VERDICT_WHAT], ITZ_PASS);
     IS(judged(record), ITZ_ACCEPTED);
@@ -318,8 +469,8 @@ static void bits(void)
     IS(writer[ITZ_BIT_WRITER_COUNT], 1);
     bit_frame[5] = 0x80;
     bit_frame[4] = 7;
-    IS(itz_bits_read(ARRAY(bit_settings), SHORT(reader), SIZED(bit_frame), ARRAY(read)), ITZ_REFUSED_ROOM);
-    IS(itz_bits_read(ARRAY(bit_settings), ARRAY(reader), SIZED(bit_frame), SHORT(read)), ITZ_REFUSED_ROOM);
+    UNTOLD(read, itz_bits_read(ARRAY(bit_settings), SHORT(reader), SIZED(bit_frame), ARRAY(read)));
+    UNTOLD(read, itz_bits_read(ARRAY(bit_settings), ARRAY(reader), SIZED(bit_frame), SHORT(read)));
     IS(itz_bits_read(ARRAY(bit_settings), ARRAY(reader), SIZED(bit_frame), ARRAY(read)), ITZ_ACCEPTED);
     IS(read[ITZ_BITS_LOSS], 0);
     IS(read[ITZ_BITS_COUNT], 7);
@@ -382,7 +533,6 @@ static uint64_t enter_longer(const uint8_t *longer)
 static void trailers(void)
 {
     static const uint8_t encapsulation[] = {0xE9, 0x05, 0x11, 0x22, 0x33};
-    static const uint64_t start[ITZ_EXTRACTOR_NUMBERS] = ITZ_EXTRACTOR_START;
     uint64_t mux[ITZ_MUX_NUMBERS], put[ITZ_PUT_NUMBERS];
     uint64_t record[ITZ_JUDGE_NUMBERS] = ITZ_JUDGE_START, faulty[ITZ_JUDGE_NUMBERS] = ITZ_JUDGE_START;
     uint8_t longer[FRAME + TRAILER];
@@ -404,7 +554,7 @@ static void trailers(void)
     IS(longer[FRAME], 0x2D);
     IS(longer[FRAME + 1], 0x75);
 
-    memcpy(extractor, start, sizeof start);
+    begin();
     IS(enter(), ITZ_REFUSED_LENGTH);
     longer[0] ^= 0x80;
     IS(enter_longer(longer), ITZ_REFUSED_TRAILER);
@@ -479,15 +629,16 @@ static void relays(void)
     HOLDS(memcmp(table + ITZ_RELAY_ENTRIES, paths, sizeof paths) == 0);
     IS(table[ITZ_RELAY_NUMBERS - 1], 0);
 
-    IS(itz_relay_route(LIMIT, SHORT(table), SIZED(space), SIZED(destinations), ARRAY(routed)), ITZ_REFUSED_ROOM);
-    IS(itz_relay_route(LIMIT, ARRAY(table), SIZED(space), SIZED(destinations), SHORT(routed)), ITZ_REFUSED_ROOM);
+    UNTOLD(routed, itz_relay_route(LIMIT, SHORT(table), SIZED(space), SIZED(destinations), ARRAY(routed)));
+    UNTOLD(routed, itz_relay_route(LIMIT, ARRAY(table), SIZED(space), SIZED(destinations), SHORT(routed)));
     IS(itz_relay_route(6, ARRAY(table), SIZED(space), SIZED(destinations), ARRAY(routed)), ITZ_REFUSED_SETTING);
     IS(itz_relay_route(LIMIT, ARRAY(table), SHORT(space), SIZED(destinations), ARRAY(routed)), ITZ_REFUSED_PACKET);
     IS(itz_relay_route(LIMIT, ARRAY(table), SIZED(space), destinations, 1, ARRAY(routed)), ITZ_REFUSED_ROOM);
-    IS(routed[ITZ_ROUTED_WHAT], 0);
+    each_is(ARRAY(routed), 0);
     IS(itz_relay_route(LIMIT, ARRAY(table), SIZED(space), SIZED(destinations), ARRAY(routed)), ITZ_ACCEPTED);
     IS(routed[ITZ_ROUTED_WHAT], ITZ_PATH);
     IS(routed[ITZ_ROUTED_COUNT], 2);
+    IS(routed[ITZ_ROUTED_DAMAGE], ITZ_DAMAGE_NONE);
     IS(destinations[0], 7);
     IS(destinations[1], 9);
     IS(destinations[2], 0x55);
@@ -508,6 +659,7 @@ int main(void)
     space_headers();
     multiplexer();
     extracting();
+    damages();
     judging();
     bits();
     losses();

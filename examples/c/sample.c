@@ -4,9 +4,11 @@
  * A space packet and an encapsulation packet go through the multiplexer, and a
  * flush closes the last frame. The frames then go to an extractor, which hands
  * the packets back, and to a judge, which says whether the run is sound. A relay
- * table says where the space packet goes from there. The same run is then sent
- * in frames that end with a trailer, and a bit of it is changed. Last come bits
- * on a channel of their own, with a frame lost in the fill between them.
+ * table says where the space packet goes from there. Then a frame comes with a
+ * wrong pointer, and the extractor says why it gives up the frame's zone. The
+ * same run is sent in frames that end with a trailer, and a bit of it is changed.
+ * Last come bits on a channel of their own, with a frame lost in the fill between
+ * them.
  *
  * `make` beside this file builds it, and the library where it is not there yet.
  */
@@ -104,7 +106,7 @@ static void receive(uint64_t *extractor, uint8_t *store, const uint8_t *frame)
         if (step[ITZ_STEP_WHAT] == ITZ_STEP_SPENT)
             return;
         if (step[ITZ_STEP_WHAT] == ITZ_STEP_DAMAGED)
-            printf("damaged\n");
+            printf("damaged %" PRIu64 "\n", step[ITZ_STEP_DAMAGE]);
         else
             show_packet((step[ITZ_STEP_PLACE] == ITZ_IN_FRAME ? frame : store) + step[ITZ_STEP_START],
                         (size_t)step[ITZ_STEP_SIZE]);
@@ -204,6 +206,8 @@ int main(void)
     receive_run();
     must("load", itz_relay_load(paths, sizeof paths / sizeof paths[0], table, ITZ_RELAY_NUMBERS));
     relay(table, space, sizeof space);
+    frames[1][7] = 2; /* the second frame points at the octet 0x33, and no packet has its version, 001 */
+    receive_run();
 
     settings[ITZ_SETTINGS_TRAILER] = 1;
     frame_len = FRAME + TRAILER;
