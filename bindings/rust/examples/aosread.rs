@@ -61,10 +61,13 @@ fn frame(out: &mut impl Write, extractor: &mut Extractor, frame: &[u8]) -> io::R
             Event::Entered(entered) => writeln!(
                 out,
                 "frame {} lost {} dropped {} reason {}",
-                entered.count, entered.lost, entered.dropped, entered.reason as u8
+                entered.count,
+                entered.lost,
+                entered.dropped,
+                entered.reason.number()
             )?,
             Event::Packet(found) => packet(out, &found)?,
-            Event::Damaged => writeln!(out, "damaged")?,
+            Event::Damaged(damage) => writeln!(out, "damaged {}", damage.number())?,
         }
     }
     Ok(())

@@ -15,9 +15,12 @@ fn main() -> Result<(), Refusal> {
             match event {
                 Event::Entered(entered) => println!(
                     "frame {} lost {} dropped {} reason {}",
-                    entered.count, entered.lost, entered.dropped, entered.reason as u8
+                    entered.count,
+                    entered.lost,
+                    entered.dropped,
+                    entered.reason.number()
                 ),
-                Event::Damaged => println!("damaged"),
+                Event::Damaged(damage) => println!("damaged {}", damage.number()),
                 Event::Packet(packet) => {
                     let total = packet.header.total;
                     match packet.header.kind {

@@ -3,7 +3,7 @@ use std::iter::FusedIterator;
 
 use crate::ffi;
 use crate::packet::{read_header, Front, Header};
-use crate::{Refusal, Settings};
+use crate::{Damage, Refusal, Settings};
 
 /// Takes packets out of the frames of a channel, and says what is missing between them.
 ///
@@ -17,7 +17,7 @@ use crate::{Refusal, Settings};
 ///     match event {
 ///         Event::Entered(entered) => assert_eq!(entered.count, 0),
 ///         Event::Packet(packet) => assert_eq!(packet.octets[6..], [0xAA, 0xBB]),
-///         Event::Damaged => unreachable!(),
+///         Event::Damaged(damage) => unreachable!("{damage}"),
 ///     }
 /// }
 /// # Ok(())
@@ -34,13 +34,25 @@ pub struct Extractor {
 #[derive(Clone, Copy, Debug, PartialEq, Eq)]
 pub enum Reason {
     /// It does go on.
-    None = 0,
+    None,
     /// Frames are missing.
-    Lost = 1,
+    Lost,
     /// The pointer is not the agreed one.
-    Pointer = 2,
-    /// The header begun in the frames before came out damaged.
-    Damaged = 3,
+    Pointer,
+    /// The header begun in the frames before came out damaged: its length is wrong.
+    Damaged(Damage),
+}
+
+impl Reason {
+    /// Its number, 0 to 3.
+    pub fn number(self) -> u64 {
+        match self {
+            Reason::None => 0,
+            Reason::Lost => ffi::REASON_LOST,
+            Reason::Pointer => ffi::REASON_POINTER,
+            Reason::Damaged(_) => ffi::REASON_DAMAGED,
+        }
+    }
 }
 
 /// What a frame says as it is entered.
@@ -74,8 +86,8 @@ pub enum Event<'f> {
     Entered(Entered),
     /// A packet ends in the frame.
     Packet(Packet<'f>),
-    /// No packet can begin where one should; the rest of the zone is given up.
-    Damaged,
+    /// No packet can begin where one should, and why; the rest of the zone is given up.
+    Damaged(Damage),
 }
 
 impl Extractor {
@@ -87,7 +99,7 @@ impl Extractor {
     /// Enters a frame. Refused is one that is not of this channel (`Length` to `Pointer`) or whose trailer is wrong (`Trailer`); the
     /// extractor goes on as if it had not been there. The frame is gone through to its end even where its events are not asked for.
     pub fn feed<'f>(&mut self, frame: &'f [u8]) -> Result<Events<'_, 'f>, Refusal> {
-        let mut answer = [0; 6];
+        let mut answer = [0; 7];
         Refusal::check(ffi::extractor_enter(
             &self.settings.numbers(),
             &mut self.record,
@@ -95,7 +107,7 @@ impl Extractor {
             frame,
             &mut answer,
         ))?;
-        let [_entered, count, replay, lost, dropped, reason] = answer;
+        let [_entered, count, replay, lost, dropped, reason, damage] = answer;
         let entered = Entered {
             count: count as u32,
             replay: replay != 0,
@@ -104,7 +116,7 @@ impl Extractor {
             reason: match reason {
                 ffi::REASON_LOST => Reason::Lost,
                 ffi::REASON_POINTER => Reason::Pointer,
-                ffi::REASON_DAMAGED => Reason::Damaged,
+                ffi::REASON_DAMAGED => Reason::Damaged(Damage::of(damage)),
                 _ => Reason::None,
             },
         };
@@ -113,7 +125,7 @@ impl Extractor {
 
     /// One step in an entered frame.
     fn step<'f>(&mut self, frame: &'f [u8]) -> Option<Event<'f>> {
-        let mut step = [0; 4];
+        let mut step = [0; 5];
         let refusal = ffi::extractor_step(
             &self.settings.numbers(),
             &mut self.record,
@@ -122,15 +134,16 @@ impl Extractor {
             &mut step,
         );
         assert!(refusal == 0, "a frame that was entered is stepped, and not refused {refusal}");
-        match step[0] {
+        let [found, .., damage] = step;
+        match found {
             ffi::STEP_SPENT => None,
-            ffi::STEP_DAMAGED => Some(Event::Damaged),
+            ffi::STEP_DAMAGED => Some(Event::Damaged(Damage::of(damage))),
             _ => Some(Event::Packet(self.packet(frame, &step))),
         }
     }
 
     /// The packet that a step found.
-    fn packet<'f>(&self, frame: &'f [u8], step: &[u64; 4]) -> Packet<'f> {
+    fn packet<'f>(&self, frame: &'f [u8], step: &[u64; 5]) -> Packet<'f> {
         let mut shown = [0; 3];
         let refusal = ffi::show(step, frame, &self.store, &mut shown);
         assert!(refusal == 0, "what a step found is shown, and not refused {refusal}");

@@ -8,10 +8,12 @@
 //! ```
 //!
 //! A table of [`relay`] says where the packets go from there. Frames that end with an error control field are those of
-//! [`Settings::with_trailer`] and [`BitSettings::with_trailer`].
+//! [`Settings::with_trailer`] and [`BitSettings::with_trailer`]. Where a packet's header is damaged, a [`Damage`] says what is wrong
+//! with it.
 #![warn(missing_docs)]
 
 mod bits;
+mod damage;
 mod extractor;
 mod ffi;
 mod judge;
@@ -23,6 +25,7 @@ mod settings;
 mod space;
 
 pub use bits::{BitReader, BitSettings, BitWriter, Bits};
+pub use damage::Damage;
 pub use extractor::{Entered, Event, Events, Extractor, Packet, Reason};
 pub use judge::{judge, Judge, Verdict};
 pub use multiplexer::{multiplex, Multiplexer};

@@ -32,19 +32,20 @@ impl Multiplexer {
         Multiplexer { settings, record, frame: vec![0; settings.frame_length()] }
     }
 
-    /// Takes a whole packet, and answers the frames that it fills. Refused is a packet that is not well formed.
+    /// Takes a whole packet, and answers the frames that it fills. Refused (`Packet`) is one that is not well formed.
     pub fn put(&mut self, packet: &[u8]) -> Result<Vec<Vec<u8>>, Refusal> {
         let mut frames = Vec::new();
         loop {
-            let mut answer = [0; 2];
-            Refusal::check(ffi::mux_put(
+            let mut answer = [0; 3];
+            let refusal = ffi::mux_put(
                 &self.settings.numbers(),
                 &mut self.record,
                 packet,
                 &mut self.frame,
                 &mut answer,
-            ))?;
-            let [full, taken] = answer;
+            );
+            let [full, taken, damage] = answer;
+            Refusal::check_packet(refusal, damage)?;
             if full != 0 {
                 frames.push(self.frame.clone());
             }

@@ -1,5 +1,5 @@
 use crate::ffi;
-use crate::Refusal;
+use crate::{Damage, Refusal};
 
 /// The longest header that wrapping writes.
 const MOST_HEADER: usize = 8;
@@ -37,20 +37,20 @@ pub struct Header {
 pub enum Front {
     /// The octets end before a header does.
     More,
-    /// No packet begins like this.
-    Damaged,
+    /// No packet begins like this, and why.
+    Damaged(Damage),
     /// A header.
     Header(Header),
 }
 
 /// Reads the header at the front of `octets`, which may end anywhere. The limit is 7 to 65,542, here and below.
 pub fn read_header(limit: usize, octets: &[u8]) -> Result<Front, Refusal> {
-    let mut answer = [0; 6];
+    let mut answer = [0; 7];
     Refusal::check(ffi::read_header(limit as u64, octets, &mut answer))?;
-    let [found, kind, idle, name, length, total] = answer;
+    let [found, kind, idle, name, length, total, damage] = answer;
     Ok(match found {
         ffi::HEADER_MORE => Front::More,
-        ffi::HEADER_DAMAGED => Front::Damaged,
+        ffi::HEADER_DAMAGED => Front::Damaged(Damage::of(damage)),
         _ => Front::Header(Header {
             kind: match kind {
                 ffi::SPACE => Kind::Space { apid: name as u16 },
@@ -74,16 +74,12 @@ pub fn well_formed(limit: usize, packet: &[u8]) -> Result<bool, Refusal> {
 /// with protocol 6 and 0 with any other.
 pub fn wrap(limit: usize, protocol: u8, extension: u8, data: &[u8]) -> Result<Vec<u8>, Refusal> {
     let mut packet = vec![0; MOST_HEADER + data.len()];
-    let mut total = [0];
-    Refusal::check(ffi::wrap(
-        limit as u64,
-        protocol.into(),
-        extension.into(),
-        data,
-        &mut packet,
-        &mut total,
-    ))?;
-    packet.truncate(total[0] as usize);
+    let mut answer = [0; 2];
+    let refusal =
+        ffi::wrap(limit as u64, protocol.into(), extension.into(), data, &mut packet, &mut answer);
+    let [total, damage] = answer;
+    Refusal::check_packet(refusal, damage)?;
+    packet.truncate(total as usize);
     Ok(packet)
 }
 
@@ -100,11 +96,12 @@ pub struct Unwrapped<'a> {
 
 /// Finds the data unit in an encapsulation packet.
 pub fn unwrap(limit: usize, packet: &[u8]) -> Result<Unwrapped<'_>, Refusal> {
-    let mut answer = [0; 4];
-    Refusal::check(ffi::unwrap(limit as u64, packet, &mut answer))?;
+    let mut answer = [0; 5];
+    let refusal = ffi::unwrap(limit as u64, packet, &mut answer);
+    let [protocol, extension, .., damage] = answer;
+    Refusal::check_packet(refusal, damage)?;
     let mut part = [0; 2];
     Refusal::check(ffi::unit_part(&answer, packet, &mut part))?;
-    let [protocol, extension, ..] = answer;
     Ok(Unwrapped {
         protocol: protocol as u8,
         extension: extension as u8,

@@ -1,35 +1,39 @@
 use std::error::Error;
 use std::fmt;
 
+use crate::Damage;
+
 /// Why a call was refused. A refused call has changed nothing.
 #[derive(Clone, Copy, Debug, PartialEq, Eq, Hash)]
 pub enum Refusal {
     /// A setting or an argument is out of range.
-    Setting = 1,
+    Setting,
     /// A lent buffer is too short.
-    Room = 2,
+    Room,
     /// The frame does not have exactly its length.
-    Length = 3,
+    Length,
     /// The frame's version is not 01.
-    Version = 4,
+    Version,
     /// The frame is of another spacecraft or channel.
-    Channel = 5,
+    Channel,
     /// A spare bit is 1; or, unwrapping, an extension without protocol 6 or a reserved field that is not 0.
-    Spare = 6,
+    Spare,
     /// The frame's pointer is one that cannot be.
-    Pointer = 7,
-    /// The packet is not well formed, or the data unit is empty or would pass the limit when wrapped.
-    Packet = 8,
+    Pointer,
+    /// The packet is not well formed, or is a space packet and to be unwrapped; the data unit is empty or would pass the limit when
+    /// wrapped; or the octets hold no space header. Where a lent packet's header is damaged, it is said what is wrong with it, whatever
+    /// else is wrong with the packet.
+    Packet(Option<Damage>),
     /// The wrong moment for this call.
-    Moment = 9,
+    Moment,
     /// The record or the held octets are not ones that the calls can have left.
-    Record = 10,
+    Record,
     /// A frame beyond the judge's last.
-    Last = 11,
+    Last,
     /// The entries make no relay table: they are more than 32, or one has an APID above 2,046, or two are the same.
-    Table = 12,
+    Table,
     /// The frame's trailer is not that of the octets before it.
-    Trailer = 13,
+    Trailer,
 }
 
 impl Refusal {
@@ -41,7 +45,7 @@ impl Refusal {
         Refusal::Channel,
         Refusal::Spare,
         Refusal::Pointer,
-        Refusal::Packet,
+        Refusal::Packet(None),
         Refusal::Moment,
         Refusal::Record,
         Refusal::Last,
@@ -51,7 +55,21 @@ impl Refusal {
 
     /// Its number, 1 to 13.
     pub fn number(self) -> u64 {
-        self as u64
+        match self {
+            Refusal::Setting => 1,
+            Refusal::Room => 2,
+            Refusal::Length => 3,
+            Refusal::Version => 4,
+            Refusal::Channel => 5,
+            Refusal::Spare => 6,
+            Refusal::Pointer => 7,
+            Refusal::Packet(_) => 8,
+            Refusal::Moment => 9,
+            Refusal::Record => 10,
+            Refusal::Last => 11,
+            Refusal::Table => 12,
+            Refusal::Trailer => 13,
+        }
     }
 
     /// What a call answered: nothing for 0, and else the refusal of that number.
@@ -64,10 +82,19 @@ impl Refusal {
             }
         }
     }
+
+    /// The same for a call whose answer carries damage, as its last number.
+    pub(crate) fn check_packet(number: u64, damage: u64) -> Result<(), Refusal> {
+        Refusal::check(number).map_err(|refusal| match refusal {
+            Refusal::Packet(_) => Refusal::Packet(Damage::told(damage)),
+            other => other,
+        })
+    }
 }
 
 impl fmt::Display for Refusal {
     fn fmt(&self, f: &mut fmt::Formatter<'_>) -> fmt::Result {
+        let number = self.number();
         let why = match self {
             Refusal::Setting => "a setting or an argument is out of range",
             Refusal::Room => "a lent buffer is too short",
@@ -76,14 +103,17 @@ impl fmt::Display for Refusal {
             Refusal::Channel => "the frame is of another spacecraft or channel",
             Refusal::Spare => "a spare bit is 1, or a field that must be 0 is not",
             Refusal::Pointer => "the frame's pointer is one that cannot be",
-            Refusal::Packet => "the packet is not well formed, or the data unit cannot be wrapped",
+            Refusal::Packet(Some(damage)) => return write!(f, "refused {number}: {damage}"),
+            Refusal::Packet(None) => {
+                "the packet is not well formed, or the data unit cannot be wrapped"
+            }
             Refusal::Moment => "the wrong moment for this call",
             Refusal::Record => "the record or the held octets cannot have been left by a call",
             Refusal::Last => "a frame beyond the judge's last",
             Refusal::Table => "more than 32 relay entries, an APID above 2,046, or two the same",
             Refusal::Trailer => "the frame's trailer is not that of the octets before it",
         };
-        write!(f, "refused {}: {why}", self.number())
+        write!(f, "refused {number}: {why}")
     }
 }
 

@@ -73,17 +73,14 @@ impl Table {
         packet: &[u8],
         destinations: &'d mut [u8],
     ) -> Result<Route<'d>, Refusal> {
-        let mut answer = [0; 2];
-        Refusal::check(ffi::relay_route(
-            limit as u64,
-            &self.record,
-            packet,
-            destinations,
-            &mut answer,
-        ))?;
-        Ok(match answer {
-            [ffi::NO_PATH, _] => Route::NoPath,
-            [_, count] => Route::Path(ffi::part(destinations, 0, count)),
+        let mut answer = [0; 3];
+        let refusal =
+            ffi::relay_route(limit as u64, &self.record, packet, destinations, &mut answer);
+        let [found, count, damage] = answer;
+        Refusal::check_packet(refusal, damage)?;
+        Ok(match found {
+            ffi::NO_PATH => Route::NoPath,
+            _ => Route::Path(ffi::part(destinations, 0, count)),
         })
     }
 }

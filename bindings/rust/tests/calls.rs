@@ -9,6 +9,22 @@ const SPACE: [u8; 8] = [0x00, 0x05, 0xC0, 0x00, 0x00, 0x01, 0xAA, 0xBB];
 const ENCAPSULATION: [u8; 5] = [0xE9, 0x05, 0x11, 0x22, 0x33];
 const LIMIT: usize = 1_024;
 
+/// Octets that begin with a damaged header, and what is wrong with it; those over the limit state 1,025 or more.
+const DAMAGED: [(&[u8], Damage); 12] = [
+    (&[0x33], Damage::Version),
+    (&[0x20, 0x05], Damage::Version),
+    (&[0xDF, 0, 0, 0, 0, 0], Damage::Version),
+    (&[0xEC], Damage::NotIdle),
+    (&[0xE4, 0x05], Damage::NotIdle),
+    (&[0xFC, 0, 0, 0], Damage::NotIdle),
+    (&[0xE9, 0x01], Damage::BelowHeader),
+    (&[0xEA, 0, 0, 3], Damage::BelowHeader),
+    (&[0xEB, 0, 0, 0, 0, 0, 0, 7], Damage::BelowHeader),
+    (&[0x00, 0x05, 0xC0, 0x00, 0x03, 0xFA], Damage::OverLimit),
+    (&[0xEA, 0, 0x04, 0x01], Damage::OverLimit),
+    (&[0xEB, 0, 0, 0, 0xFF, 0xFF, 0xFF, 0xFF], Damage::OverLimit),
+];
+
 /// The frames of both packets, with their trailers.
 const TRAILED: [[u8; 20]; 2] = [
     [
@@ -45,6 +61,15 @@ fn entered(event: Option<Event>) -> Entered {
     }
 }
 
+/// How each call that is lent a packet refuses it.
+fn refusals(packet: &[u8]) -> [Option<Refusal>; 3] {
+    [
+        Multiplexer::new(settings()).put(packet).err(),
+        unwrap(LIMIT, packet).err(),
+        Table::empty().route(LIMIT, packet, &mut []).err(),
+    ]
+}
+
 #[test]
 fn settings_are_those_of_the_rules() {
     assert_eq!(settings().frame_length(), 18);
@@ -74,7 +99,8 @@ fn headers_are_read() {
     assert_eq!(read_header(LIMIT, &[0xE0]), Ok(Front::Header(idle)));
     assert_eq!(read_header(LIMIT, &SPACE[..5]), Ok(Front::More));
     assert_eq!(read_header(LIMIT, &[]), Ok(Front::More));
-    assert_eq!(read_header(LIMIT, &[0x33]), Ok(Front::Damaged));
+    assert_eq!(read_header(LIMIT, &[0x33]), Ok(Front::Damaged(Damage::Version)));
+    assert_eq!(read_header(7, &SPACE), Ok(Front::Damaged(Damage::OverLimit)));
     assert_eq!(read_header(6, &SPACE), Err(Refusal::Setting));
     assert_eq!(well_formed(LIMIT, &SPACE), Ok(true));
     assert_eq!(well_formed(LIMIT, &SPACE[..7]), Ok(false));
@@ -87,11 +113,12 @@ fn data_units_are_wrapped() {
     assert_eq!(wrap(LIMIT, 2, 0, &[0x11, 0x22, 0x33]).unwrap(), ENCAPSULATION);
     assert_eq!(wrap(LIMIT, 6, 5, &[0xDD]).unwrap(), [0xFA, 0x05, 0x00, 0x05, 0xDD]);
     assert_eq!(wrap(LIMIT, 0, 0, &[1]), Err(Refusal::Setting));
-    assert_eq!(wrap(LIMIT, 2, 0, &[]), Err(Refusal::Packet));
+    assert_eq!(wrap(LIMIT, 2, 0, &[]), Err(Refusal::Packet(None)));
+    assert_eq!(wrap(7, 2, 0, &[0; 6]), Err(Refusal::Packet(None)));
     let unwrapped = Unwrapped { protocol: 2, extension: 0, data: &[0x11, 0x22, 0x33] };
     assert_eq!(unwrap(LIMIT, &ENCAPSULATION), Ok(unwrapped));
     assert_eq!(unwrap(LIMIT, &[0xE9, 0x02]).unwrap().data, []);
-    assert_eq!(unwrap(LIMIT, &SPACE), Err(Refusal::Packet));
+    assert_eq!(unwrap(LIMIT, &SPACE), Err(Refusal::Packet(None)));
     assert_eq!(unwrap(LIMIT, &[0xEA, 0x05, 0x00, 0x05, 0xDD]), Err(Refusal::Spare));
     for (size, header) in [(1, 2), (253, 2), (254, 4), (65_531, 4), (65_532, 8)] {
         let data = vec![0xA5; size];
@@ -125,8 +152,9 @@ fn space_headers_are_read_and_written() {
     assert_eq!(SpaceHeader { apid: 2_048, ..header }.to_octets(), Err(Refusal::Setting));
     assert_eq!(SpaceHeader { version: 1, ..header }.to_octets(), Err(Refusal::Setting));
     assert_eq!(header.write(&mut [0; 5]), Err(Refusal::Room));
-    assert_eq!(SpaceHeader::read(&SPACE[..5]), Err(Refusal::Packet));
-    assert_eq!(SpaceHeader::read(&ENCAPSULATION), Err(Refusal::Packet));
+    assert_eq!(SpaceHeader::read(&SPACE[..5]), Err(Refusal::Packet(None)));
+    assert_eq!(SpaceHeader::read(&ENCAPSULATION), Err(Refusal::Packet(None)));
+    assert_eq!(SpaceHeader::read(&[0x33; 6]), Err(Refusal::Packet(None)));
 }
 
 #[test]
@@ -136,7 +164,7 @@ fn packets_are_multiplexed() {
     let idle = multiplexer.idle().unwrap();
     assert_eq!(idle[..8], [0x50, 0x83, 0, 0, 0, 0, 0x07, 0xFE]);
     assert_eq!(idle[8..], [0x55; 10]);
-    assert_eq!(multiplexer.put(&SPACE[..7]), Err(Refusal::Packet));
+    assert_eq!(multiplexer.put(&SPACE[..7]), Err(Refusal::Packet(None)));
     assert!(multiplexer.put(&SPACE).unwrap().is_empty());
     assert_eq!(multiplexer.idle(), Err(Refusal::Moment));
     let filled = multiplexer.put(&SPACE).unwrap();
@@ -178,6 +206,61 @@ fn what_is_missing_is_told() {
     assert!(matches!(events.next(), Some(Event::Packet(packet)) if packet.header.idle));
     assert_eq!(events.next(), None);
     assert_eq!(events.next(), None);
+}
+
+#[test]
+fn damage_is_named() {
+    for (octets, damage) in DAMAGED {
+        assert_eq!(read_header(LIMIT, octets), Ok(Front::Damaged(damage)));
+        assert_eq!(well_formed(LIMIT, octets), Ok(false));
+        assert_eq!(refusals(octets), [Some(Refusal::Packet(Some(damage))); 3]);
+        let mut frame = frames()[0].clone();
+        frame[8..8 + octets.len()].copy_from_slice(octets);
+        let mut extractor = Extractor::new(settings());
+        let mut events = extractor.feed(&frame).unwrap();
+        assert_eq!(entered(events.next()).reason, Reason::None);
+        assert_eq!(events.next(), Some(Event::Damaged(damage)));
+        assert_eq!(events.next(), None);
+    }
+    let mut whole = vec![0x00, 0x05, 0xC0, 0x00, 0x03, 0xFA];
+    whole.resize(LIMIT + 1, 0);
+    assert_eq!(refusals(&whole), [Some(Refusal::Packet(Some(Damage::OverLimit))); 3]);
+}
+
+#[test]
+fn a_packet_is_refused_without_damage() {
+    let longer = [&ENCAPSULATION[..], &[0x44]].concat();
+    for packet in [&[][..], &[0xE9], &SPACE[..5], &SPACE[..7], &ENCAPSULATION[..4], &longer] {
+        assert_eq!(refusals(packet), [Some(Refusal::Packet(None)); 3]);
+    }
+    let damaged = [0x33];
+    assert_eq!(read_header(6, &damaged), Err(Refusal::Setting));
+    assert_eq!(unwrap(6, &damaged), Err(Refusal::Setting));
+    assert_eq!(Table::empty().route(6, &damaged, &mut []), Err(Refusal::Setting));
+}
+
+#[test]
+fn a_held_header_comes_out_damaged() {
+    // A space packet, one idle octet, and the first of a header's four; the next frame has the header's length, and an idle packet.
+    let first = *b"\x50\x83\0\0\0\0\0\0\x00\x05\xC0\x00\x00\x01\xAA\xBB\xE0\xEA";
+    let second = *b"\x50\x83\0\0\x01\0\0\x03\x00\x00\x04\xE1\x07\x55\x55\x55\x55\x55";
+    for (length, reason) in [
+        (4, Reason::None),
+        (3, Reason::Damaged(Damage::BelowHeader)),
+        (0, Reason::Damaged(Damage::BelowHeader)),
+        (1_025, Reason::Damaged(Damage::OverLimit)),
+        (1_024, Reason::Pointer),
+    ] {
+        let mut extractor = Extractor::new(settings());
+        extractor.feed(&first).unwrap();
+        let mut frame = second;
+        frame[9..11].copy_from_slice(&u16::to_be_bytes(length));
+        let mut events = extractor.feed(&frame).unwrap();
+        let told = entered(events.next());
+        assert_eq!(told.reason, reason);
+        assert_eq!(told.dropped, usize::from(reason != Reason::None));
+        assert_eq!(events.filter(|event| matches!(event, Event::Damaged(_))).count(), 0);
+    }
 }
 
 #[test]
@@ -380,8 +463,7 @@ fn packets_are_routed() {
         assert_eq!(table.route(LIMIT, packet, &mut []), Ok(Route::NoPath));
     }
     assert_eq!(table.route(LIMIT, &SPACE, &mut [0]), Err(Refusal::Room));
-    assert_eq!(table.route(LIMIT, &SPACE[..7], &mut destinations), Err(Refusal::Packet));
-    assert_eq!(table.route(LIMIT, &[0xE9, 0x01], &mut destinations), Err(Refusal::Packet));
+    assert_eq!(table.route(LIMIT, &SPACE[..7], &mut destinations), Err(Refusal::Packet(None)));
     assert_eq!(table.route(6, &SPACE, &mut destinations), Err(Refusal::Setting));
     assert_eq!(destinations[..3], [7, 2, 0x55]);
 }
@@ -391,8 +473,27 @@ fn refusals_say_why() {
     assert_eq!(Refusal::Pointer.number(), 7);
     assert_eq!(Refusal::Record.number(), 10);
     assert_eq!(Refusal::Trailer.number(), 13);
+    assert_eq!(Refusal::Packet(None).number(), 8);
+    assert_eq!(Refusal::Packet(Some(Damage::OverLimit)).number(), 8);
     let said = Refusal::Pointer.to_string();
     assert_eq!(said, "refused 7: the frame's pointer is one that cannot be");
     let error: Box<dyn std::error::Error + Send + Sync> = Refusal::Table.into();
     assert!(error.to_string().starts_with("refused 12: "));
+    let said = Refusal::Packet(None).to_string();
+    assert_eq!(
+        said,
+        "refused 8: the packet is not well formed, or the data unit cannot be wrapped"
+    );
+    let said = Refusal::Packet(Some(Damage::NotIdle)).to_string();
+    assert_eq!(said, "refused 8: damaged 2: a packet of one octet is not idle");
+}
+
+#[test]
+fn damage_and_reasons_have_numbers() {
+    let all = [Damage::Version, Damage::NotIdle, Damage::BelowHeader, Damage::OverLimit];
+    assert_eq!(all.map(Damage::number), [1, 2, 3, 4]);
+    let said = Damage::Version.to_string();
+    assert_eq!(said, "damaged 1: the packet's version is neither 000 nor 111");
+    let reasons = [Reason::None, Reason::Lost, Reason::Pointer, Reason::Damaged(Damage::OverLimit)];
+    assert_eq!(reasons.map(Reason::number), [0, 1, 2, 3]);
 }
