@@ -19,7 +19,7 @@ def line(event: Event) -> str:
         if header.idle:
             return f"idle {header.total}"
         return f"space {header.apid} {header.total}" if header.protocol is None else f"encap {header.protocol} {header.total}"
-    return "damaged"
+    return f"damaged {int(event.damage)}"
 
 
 def main() -> None:

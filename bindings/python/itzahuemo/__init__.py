@@ -11,13 +11,13 @@ A face on the proved library: what has to be remembered between calls is kept he
     print(judge(settings, frames))
 
 A `RelayTable` says where the packets go from there. With `trailer=True` the settings are those of a channel whose frames end with an
-error control field.
+error control field. Where a packet's header is damaged, a `Damage` says what is wrong with it.
 
 An extractor, a judge, a multiplexer, a reader or a writer of bits or a relay table is used by one thread at a time; different ones may
 be used at the same time.
 """
 
-from ._library import Refusal, Refused
+from ._library import Damage, Refusal, Refused
 from .bits import BitReader, Bits, BitSettings, BitWriter
 from .channel import Settings
 from .extractor import Damaged, Entered, Event, Extractor, Packet, Reason
@@ -31,6 +31,7 @@ __all__ = [
     "BitSettings",
     "BitWriter",
     "Bits",
+    "Damage",
     "Damaged",
     "Entered",
     "Event",

@@ -6,7 +6,7 @@ import ctypes
 import enum
 import os
 from pathlib import Path
-from typing import Any, Iterable, Union
+from typing import Any, Iterable, Optional, Union
 
 Octets = Union[bytes, bytearray, memoryview]
 
@@ -46,12 +46,37 @@ _WHY = {
 }
 
 
-class Refused(ValueError):
-    """A refused call; it has changed nothing."""
+class Damage(enum.IntEnum):
+    """What is wrong with a packet's header; at most one of these is."""
 
-    def __init__(self, refusal: Refusal) -> None:
-        super().__init__(f"refused {int(refusal)}: {_WHY[refusal]}")
+    VERSION = 1
+    NOT_IDLE = 2
+    BELOW_HEADER = 3
+    OVER_LIMIT = 4
+
+    @property
+    def why(self) -> str:
+        """The same in words."""
+        return _WRONG[self]
+
+
+_WRONG = {
+    Damage.VERSION: "the packet's version is neither 000 nor 111",
+    Damage.NOT_IDLE: "a packet of one octet is not idle",
+    Damage.BELOW_HEADER: "the packet's length is below that of its header",
+    Damage.OVER_LIMIT: "the packet's length is over the limit",
+}
+
+
+class Refused(ValueError):
+    """A refused call; it has changed nothing. Where a lent packet is refused (`Refusal.PACKET`) and its header is damaged, `damage` says
+    what is wrong with it; else it is None."""
+
+    def __init__(self, refusal: Refusal, damage: Optional[Damage] = None) -> None:
+        why = _WHY[refusal] if damage is None else f"damaged {int(damage)}: {damage.why}"
+        super().__init__(f"refused {int(refusal)}: {why}")
         self.refusal = refusal
+        self.damage = damage
 
 
 # What each call is lent: n a number, o octets that are read, O octets that are written, a numbers that are read, A numbers that are
@@ -137,6 +162,11 @@ def octets(given: Octets) -> Any:
     return (ctypes.c_uint8 * len(copied)).from_buffer_copy(copied)
 
 
+def damage_of(number: int) -> Optional[Damage]:
+    """The damage that an answer names, None for 0."""
+    return Damage(number) if number != 0 else None
+
+
 def number_of(name: str, *lent: Any) -> int:
     """Makes a call, and answers the number of its refusal, 0 where it was not refused."""
     words: list[Any] = []
@@ -151,5 +181,8 @@ def number_of(name: str, *lent: Any) -> int:
 def call(name: str, *lent: Any) -> None:
     """Makes a call that has to be answered."""
     refusal = number_of(name, *lent)
+    if refusal == Refusal.PACKET:
+        # Every call that refuses so is lent its answer last. The answer's last number is the damage, where there is any, and else 0.
+        raise Refused(Refusal.PACKET, damage_of(lent[-1][-1]))
     if refusal != 0:
         raise Refused(Refusal(refusal))

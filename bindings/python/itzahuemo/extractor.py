@@ -4,9 +4,9 @@ from __future__ import annotations
 
 import enum
 from dataclasses import dataclass
-from typing import Any, Union
+from typing import Any, Optional, Union
 
-from ._library import Octets, answer, call, octets, room
+from ._library import Damage, Octets, answer, call, damage_of, octets, room
 from .channel import Settings
 from .packets import Front, Header, read_header
 
@@ -27,13 +27,14 @@ class Reason(enum.IntEnum):
 @dataclass(frozen=True)
 class Entered:
     """What a frame says as it is entered: its count and replay flag, the frames missing before it, the held octets that were dropped,
-    and why."""
+    and why. `damage` is what is wrong with the held header where the reason is `Reason.DAMAGED`, and None with any other."""
 
     count: int
     replay: bool
     lost: int
     dropped: int
     reason: Reason
+    damage: Optional[Damage] = None
 
 
 @dataclass(frozen=True)
@@ -46,7 +47,9 @@ class Packet:
 
 @dataclass(frozen=True)
 class Damaged:
-    """No packet can begin where one should; the rest of the zone is given up."""
+    """No packet can begin where one should, and why; the rest of the zone is given up."""
+
+    damage: Damage
 
 
 Event = Union[Entered, Packet, Damaged]
@@ -66,17 +69,18 @@ class Extractor:
         lent = octets(frame)
         events: list[Event] = [self._enter(lent)]
         while True:
-            step = answer(4)
+            step = answer(5)
             call("extractor_step", self.settings.numbers(), self._record, self._store, lent, step)
-            if step[0] == _STEP_SPENT:
+            found, *_part, damage = step
+            if found == _STEP_SPENT:
                 return events
-            events.append(Damaged() if step[0] == _STEP_DAMAGED else self._packet(lent, step))
+            events.append(Damaged(Damage(damage)) if found == _STEP_DAMAGED else self._packet(lent, step))
 
     def _enter(self, frame: Any) -> Entered:
-        said = answer(6)
+        said = answer(7)
         call("extractor_enter", self.settings.numbers(), self._record, self._store, frame, said)
-        _entered, count, replay, lost, dropped, reason = said
-        return Entered(count, bool(replay), lost, dropped, Reason(reason))
+        _entered, count, replay, lost, dropped, reason, damage = said
+        return Entered(count, bool(replay), lost, dropped, Reason(reason), damage_of(damage))
 
     def _packet(self, frame: Any, step: Any) -> Packet:
         shown = answer(3)

@@ -25,9 +25,9 @@ class Multiplexer:
         frames = []
         full = taken = 0
         while not taken:
-            said = answer(2)
+            said = answer(3)
             call("mux_put", self.settings.numbers(), self._record, lent, self._frame, said)
-            full, taken = said
+            full, taken, _damage = said
             if full:
                 frames.append(bytes(self._frame))
         return frames

@@ -2,14 +2,13 @@
 
 from __future__ import annotations
 
-import enum
 from dataclasses import dataclass
 from typing import Optional, Union
 
-from ._library import Octets, answer, call, numbers, octets, room
+from ._library import Damage, Octets, answer, call, damage_of, numbers, octets, room
 
 # What the calls answer.
-_MORE, _DAMAGED = 1, 2
+_WHOLE = 3
 _SPACE = 1
 _FORMED = 1
 
@@ -18,14 +17,14 @@ _MOST_HEADER = 8
 _SPACE_HEADER = 6
 
 
-class Front(enum.Enum):
-    """What stands at the front of some octets where it is no header."""
+@dataclass(frozen=True)
+class Front:
+    """What stands at the front of some octets where it is no header: `damage` says why no packet begins like this, and is None where more
+    octets are needed. As a condition it is false: `if read_header(..)` is true for a header alone."""
 
-    MORE = "more octets are needed"
-    DAMAGED = "no packet begins like this"
+    damage: Optional[Damage]
 
     def __bool__(self) -> bool:
-        """No header is found: `if read_header(..)` is true for a header alone."""
         return False
 
 
@@ -42,13 +41,11 @@ class Header:
 
 def read_header(limit: int, front: Octets) -> Union[Header, Front]:
     """The header at the front of octets that may end anywhere. The limit is 7 to 65,542, here and below."""
-    said = answer(6)
+    said = answer(7)
     call("read_header", limit, octets(front), said)
-    found, kind, idle, name, length, total = said
-    if found == _MORE:
-        return Front.MORE
-    if found == _DAMAGED:
-        return Front.DAMAGED
+    found, kind, idle, name, length, total, damage = said
+    if found != _WHOLE:
+        return Front(damage_of(damage))
     is_space = kind == _SPACE
     return Header(name if is_space else None, None if is_space else name, bool(idle), length, total)
 
@@ -65,9 +62,10 @@ def wrap(limit: int, protocol: int, data: Octets, extension: int = 0) -> bytes:
     with protocol 6 and 0 with any other."""
     unit = octets(data)
     packet = room(_MOST_HEADER + len(unit))
-    total = answer(1)
-    call("wrap", limit, protocol, extension, unit, packet, total)
-    return bytes(packet[: total[0]])
+    said = answer(2)
+    call("wrap", limit, protocol, extension, unit, packet, said)
+    total, _damage = said
+    return bytes(packet[:total])
 
 
 @dataclass(frozen=True)
@@ -82,7 +80,7 @@ class Unwrapped:
 def unwrap(limit: int, packet: Octets) -> Unwrapped:
     """The data unit in an encapsulation packet."""
     lent = octets(packet)
-    said = answer(4)
+    said = answer(5)
     call("unwrap", limit, lent, said)
     part = answer(2)
     call("unit_part", said, lent, part)

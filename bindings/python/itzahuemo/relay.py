@@ -27,7 +27,7 @@ class RelayTable:
         """The destinations of a packet, in table order; an empty list where it has no path: its APID has no entry, or it is an idle or an
         encapsulation packet. The limit is 7 to 65,542. A packet that is not well formed raises `Refused`."""
         destinations = room(_MOST_ENTRIES)
-        said = answer(2)
+        said = answer(3)
         call("relay_route", limit, self._record, octets(packet), destinations, said)
-        _what, count = said
+        _what, count, _damage = said
         return list(destinations[:count])

@@ -3,13 +3,15 @@
 from __future__ import annotations
 
 import unittest
-from typing import Any, Callable, Iterator
+from typing import Any, Callable, Iterator, Optional
 
 from itzahuemo import (
     BitReader,
     Bits,
     BitSettings,
     BitWriter,
+    Damage,
+    Damaged,
     Entered,
     Extractor,
     Front,
@@ -38,6 +40,22 @@ LIMIT = 1024
 SETTINGS = Settings(66, 3, 10, LIMIT)
 FRAMES = multiplex(SETTINGS, [SPACE, ENCAPSULATION])
 
+# Octets that begin with a damaged header, and what is wrong with it; those over the limit state 1,025 or more.
+DAMAGED = [
+    ("33", Damage.VERSION),
+    ("2005", Damage.VERSION),
+    ("DF0000000000", Damage.VERSION),
+    ("EC", Damage.NOT_IDLE),
+    ("E405", Damage.NOT_IDLE),
+    ("FC000000", Damage.NOT_IDLE),
+    ("E901", Damage.BELOW_HEADER),
+    ("EA000003", Damage.BELOW_HEADER),
+    ("EB00000000000007", Damage.BELOW_HEADER),
+    ("0005C00003FA", Damage.OVER_LIMIT),
+    ("EA000401", Damage.OVER_LIMIT),
+    ("EB000000FFFFFFFF", Damage.OVER_LIMIT),
+]
+
 # The same channel with trailers, and its frames of both packets.
 TRAILED = Settings(66, 3, 10, LIMIT, trailer=True)
 TRAILED_FRAMES = [
@@ -58,10 +76,24 @@ class Calls(unittest.TestCase):
     """Answers and refusals."""
 
     def refused(self, refusal: Refusal, call: Callable[..., Any], *lent: Any) -> None:
-        """A call that has to be refused."""
+        """A call that has to be refused, without damage."""
         with self.assertRaises(Refused) as caught:
             call(*lent)
         self.assertEqual(caught.exception.refusal, refusal)
+        self.assertIsNone(caught.exception.damage)
+
+    def refused_packet(self, packet: bytes, damage: Optional[Damage]) -> None:
+        """A packet that each call has to refuse that is lent one."""
+        calls = [
+            lambda: Multiplexer(SETTINGS).put(packet),
+            lambda: unwrap(LIMIT, packet),
+            lambda: RelayTable().route(LIMIT, packet),
+        ]
+        for call in calls:
+            with self.assertRaises(Refused) as caught:
+                call()
+            self.assertEqual(caught.exception.refusal, Refusal.PACKET)
+            self.assertEqual(caught.exception.damage, damage)
 
     def test_settings(self) -> None:
         self.assertEqual(SETTINGS.frame_length, 18)
@@ -89,10 +121,12 @@ class Calls(unittest.TestCase):
     def test_headers(self) -> None:
         self.assertEqual(read_header(LIMIT, SPACE), Header(5, None, False, 6, 8))
         self.assertEqual(read_header(LIMIT, b"\xe0"), Header(None, 0, True, 1, 1))
-        self.assertEqual(read_header(LIMIT, memoryview(SPACE)[:5]), Front.MORE)
-        self.assertEqual(read_header(LIMIT, b""), Front.MORE)
+        self.assertEqual(read_header(LIMIT, memoryview(SPACE)[:5]), Front(None))
+        self.assertEqual(read_header(LIMIT, b""), Front(None))
         self.assertFalse(read_header(LIMIT, b""))
-        self.assertEqual(read_header(LIMIT, bytearray(b"\x33")), Front.DAMAGED)
+        self.assertEqual(read_header(LIMIT, bytearray(b"\x33")), Front(Damage.VERSION))
+        self.assertEqual(read_header(7, SPACE), Front(Damage.OVER_LIMIT))
+        self.assertFalse(read_header(7, SPACE))
         self.refused(Refusal.SETTING, read_header, 6, SPACE)
         self.assertTrue(well_formed(LIMIT, SPACE))
         self.assertFalse(well_formed(LIMIT, SPACE[:7]))
@@ -104,6 +138,7 @@ class Calls(unittest.TestCase):
         self.assertEqual(wrap(LIMIT, 6, b"\xdd", extension=5), bytes.fromhex("FA050005DD"))
         self.refused(Refusal.SETTING, wrap, LIMIT, 0, b"\x01")
         self.refused(Refusal.PACKET, wrap, LIMIT, 2, b"")
+        self.refused(Refusal.PACKET, wrap, 7, 2, bytes(6))
         self.assertEqual(unwrap(LIMIT, ENCAPSULATION), Unwrapped(2, 0, b"\x11\x22\x33"))
         self.assertEqual(unwrap(LIMIT, b"\xe9\x02").data, b"")
         self.refused(Refusal.PACKET, unwrap, LIMIT, SPACE)
@@ -128,6 +163,7 @@ class Calls(unittest.TestCase):
         self.refused(Refusal.SETTING, SpaceHeader(5, 1, version=1).to_octets)
         self.refused(Refusal.PACKET, SpaceHeader.read, SPACE[:5])
         self.refused(Refusal.PACKET, SpaceHeader.read, ENCAPSULATION)
+        self.refused(Refusal.PACKET, SpaceHeader.read, b"\x33" * 6)
 
     def test_multiplexing(self) -> None:
         self.assertEqual(FRAMES[1], bytes.fromhex("5083000001000003 112233 E1075555555555"))
@@ -160,6 +196,42 @@ class Calls(unittest.TestCase):
         later[4:6] = b"\x02\x80"
         entered, _idle = extractor.feed(later)
         self.assertEqual(entered, Entered(2, True, 1, 2, Reason.LOST))
+
+    def test_damage(self) -> None:
+        for front, damage in DAMAGED:
+            octets = bytes.fromhex(front)
+            self.assertEqual(read_header(LIMIT, octets), Front(damage))
+            self.assertFalse(well_formed(LIMIT, octets))
+            self.refused_packet(octets, damage)
+            frame = bytearray(FRAMES[0])
+            frame[8 : 8 + len(octets)] = octets
+            entered, given_up = Extractor(SETTINGS).feed(frame)
+            self.assertEqual(entered, Entered(0, False, 0, 0, Reason.NONE))
+            self.assertEqual(given_up, Damaged(damage))
+        self.refused_packet(bytes.fromhex("0005C00003FA") + bytes(LIMIT - 5), Damage.OVER_LIMIT)
+
+    def test_packets_refused_without_damage(self) -> None:
+        for packet in [b"", b"\xe9", SPACE[:5], SPACE[:7], ENCAPSULATION[:4], ENCAPSULATION + b"\x44"]:
+            self.refused_packet(packet, None)
+        for call in [read_header, unwrap, RelayTable().route]:
+            self.refused(Refusal.SETTING, call, 6, b"\x33")
+
+    def test_a_held_header_damaged(self) -> None:
+        """The first frame ends with the first of a header's four octets; the second has the header's length, and an idle packet."""
+        first = bytes.fromhex("5083000000000000 0005C0000001AABB E0 EA")
+        for length, dropped, reason, damage in [
+            (4, 0, Reason.NONE, None),
+            (3, 1, Reason.DAMAGED, Damage.BELOW_HEADER),
+            (0, 1, Reason.DAMAGED, Damage.BELOW_HEADER),
+            (1025, 1, Reason.DAMAGED, Damage.OVER_LIMIT),
+            (1024, 1, Reason.POINTER, None),
+        ]:
+            extractor = Extractor(SETTINGS)
+            extractor.feed(first)
+            second = bytes.fromhex("5083000001000003 00") + length.to_bytes(2, "big") + bytes.fromhex("E1075555555555")
+            entered, *packets = extractor.feed(second)
+            self.assertEqual(entered, Entered(1, False, 0, dropped, reason, damage))
+            self.assertTrue(all(isinstance(packet, Packet) for packet in packets))
 
     def test_frames_of_elsewhere(self) -> None:
         extractor = Extractor(SETTINGS)
@@ -295,7 +367,6 @@ class Calls(unittest.TestCase):
         for packet in [ENCAPSULATION, bytes.fromhex("07FFC000000000"), b"\xe0"]:
             self.assertEqual(table.route(LIMIT, packet), [])
         self.refused(Refusal.PACKET, table.route, LIMIT, SPACE[:7])
-        self.refused(Refusal.PACKET, table.route, LIMIT, b"\xe9\x01")
         self.refused(Refusal.SETTING, table.route, 6, SPACE)
 
     def test_what_is_no_octets(self) -> None:
@@ -317,3 +388,10 @@ class Calls(unittest.TestCase):
         self.assertEqual([Refusal(number).name for number in range(1, 14)], names.split())
         for refusal in Refusal:
             self.assertIn(f"refused {int(refusal)}: ", str(Refused(refusal)))
+        damaged = Refused(Refusal.PACKET, Damage.NOT_IDLE)
+        self.assertEqual(str(damaged), "refused 8: damaged 2: a packet of one octet is not idle")
+
+    def test_damage_in_words(self) -> None:
+        self.assertEqual([Damage(number).name for number in range(1, 5)], "VERSION NOT_IDLE BELOW_HEADER OVER_LIMIT".split())
+        self.assertEqual(Damage.VERSION.why, "the packet's version is neither 000 nor 111")
+        self.assertEqual(len({damage.why for damage in Damage}), 4)
