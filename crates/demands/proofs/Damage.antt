@@ -1,18 +1,17 @@
 -- What is wrong with a packet's header is told by each answer that carries it.
 -- Assumes nothing.
 use mathlib.Core.Logic.{_↔_}
-use mathlib.Core.Path.{_≡_, refl, sym, ap, subst, _∙_}
+use mathlib.Core.Path.{_≡_, refl}
 use mathlib.Core.List.{List, [], _∷_, _++_}
-use mathlib.Core.Bool.{Bool, true, false}
-use Prim.Native.Nat.{ℕ, _+_, _-_}
+use mathlib.Core.Bool.{true}
+use Prim.Native.Nat.{ℕ, _+_}
 use native.Mathlib.Omega.{arith}
 use lib.ListN.{length, take, drop}
 use lib.Dec.{leb, eqb}
-use borrow.Author.Tests.{eq-eqb, ne-eqb, eqb-true}
-use Rattle.octets.specs.Basics.{pick, over, first}
+use borrow.Author.Tests.{eq-eqb, ne-eqb}
+use Rattle.octets.specs.Basics.{first}
 use Rattle.octets.proofs.Tests.{test}
-use Rattle.octets.proofs.Choices.{apart}
-use Rattle.packets.specs.Packet.{Look, more, damaged, whole, look, damage-in, carried, limit-in-range, is-idle}
+use Rattle.packets.specs.Packet.{Look, more, damaged, whole, look, damage-in, carried, limit-in-range}
 use Rattle.packets.specs.Header.{told, reading}
 use Rattle.packets.specs.Unwrap.{unwrap-rows, unwrapping}
 use Rattle.packets.specs.Damage.{applies, Tells}
@@ -22,7 +21,6 @@ use Rattle.relay.specs.Table.{entries-of}
 use Rattle.relay.specs.Route.{path, route-rows, written, routing}
 use Rattle.relay.specs.declared.Table.{Table}
 use Rattle.frames.specs.Frame.{zone-of}
-use Rattle.frames.specs.Link.{zone-at}
 use Rattle.frames.specs.declared.Settings.{Settings}
 use Rattle.multiplexer.specs.Calls.{to-put, call-rows, answer}
 use Rattle.multiplexer.specs.declared.Mux.{Mux}

@@ -14,7 +14,7 @@ use Rattle.multiplexer.specs.Multiplex.{begun}
 use Rattle.multiplexer.specs.Calls.{to-put, to-flush, to-idle, answer}
 use Rattle.extractor.specs.Answers.{enter-answer, step-answer}
 use Rattle.extractor.specs.declared.Extractor.the-variants.{InStep, Walking}
-use Rattle.demands.specs.Numbers.Samples.{set, small, small-trailed, least, frame, lent, ten, seven}
+use Rattle.demands.specs.Numbers.Samples.{set, small, small-trailed, least, frame, lent, ten}
 
 -- so many numbers from `n` on
 abbrev pub from : ℕ → ℕ → List ℕ
