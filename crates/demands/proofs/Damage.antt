@@ -29,6 +29,7 @@ use Rattle.extractor.specs.Records.{step-rows, handed-over, step-look, step, st
 use Rattle.extractor.specs.Answers.{found-numbers, step-answer}
 use Rattle.extractor.specs.declared.Extractor.the-variants.{Walking}
 use Rattle.demands.specs.Damage.{Refusal, Damages}
+use Rattle.demands.proofs.AsWritten.{as-written}
 
 -- ---- the header reader
 
@@ -132,6 +133,7 @@ stepped s last h at store f ranged e =
 
 pub damages : Damages
 damages = record {
+  as-written = as-written;
   named = damage-named;
   read = read;
   found = found;

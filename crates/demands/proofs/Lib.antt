@@ -10,5 +10,6 @@ pub mod Passed
 pub mod Promised
 pub mod RoundTrips
 pub mod SpaceAndPackets
+pub mod AsWritten
 pub mod Damage
 pub mod calls

@@ -1,15 +1,16 @@
 -- What is wrong with a packet's header, in each answer that carries it, by the tests of document 02's four damages.
-use Prim.Native.Nat.{ℕ}
+use Prim.Native.Nat.{ℕ, suc, _+_, _^_, _≤_, _<_}
 use mathlib.Core.Logic.{_↔_}
 use mathlib.Core.Path.{_≡_}
-use mathlib.Core.List.{List, _++_}
+use mathlib.Core.List.{List, _∷_, _++_}
 use mathlib.Core.Bool.{true}
-use lib.ListN.{take, drop}
-use Rattle.octets.specs.Basics.{first}
-use Rattle.packets.specs.Packet.{limit-in-range}
+use lib.ListN.{length, take, drop}
+use Rattle.octets.specs.Basics.{octets, first}
+use Rattle.packets.specs.Packet.{more, damaged, whole, look, limit-in-range, header-length, packet-version}
 use Rattle.packets.specs.Header.{reading}
 use Rattle.packets.specs.Unwrap.{unwrapping}
 use Rattle.packets.specs.Damage.{applies, DamageNamed, Tells}
+use Rattle.wrapping.specs.Front.{first-octet, half}
 use Rattle.wrapping.specs.Wrap.{wrapping}
 use Rattle.relay.specs.Route.{routing}
 use Rattle.relay.specs.declared.Table.{Table}
@@ -22,6 +23,43 @@ use Rattle.extractor.specs.Records.{step-rows}
 use Rattle.extractor.specs.Answers.{step-answer}
 use Rattle.extractor.specs.declared.Extractor.the-variants.{Walking}
 
+-- The reader by headers as they are written, at any limit, and with any octets behind: an encapsulation header by its protocol, its
+-- length-of-length, which is `code` here, what stands between its first octet and its length field, and the length in that field.
+abbrev pub header : ℕ → ℕ → List ℕ → ℕ → List ℕ → List ℕ
+header protocol code between total rest = first-octet protocol code ∷ (between ++ (octets (half code) total ++ rest))
+
+-- these can be written: a header that has a length field, whose first half is the first octet and what stands between, and a length that fits it
+pub record Written (code : ℕ) (between : List ℕ) (total : ℕ) : Type 0 where
+  pub least : 1 ≤ code
+  pub most : code ≤ 3
+  pub opens : suc (length between) ≡ half code
+  pub stated : total < 256 ^ half code
+
+-- a space packet's header by its first four octets and its length field
+abbrev pub space-header : ℕ → ℕ → ℕ → ℕ → ℕ → List ℕ → List ℕ
+space-header o a b c field rest = o ∷ a ∷ b ∷ c ∷ (octets 2 field ++ rest)
+
+pub record AsWritten (limit : ℕ) : Type 0 where
+  -- 1, whatever follows; and 2, with every protocol but 0
+  pub version : (o : ℕ) (rest : List ℕ) → 1 ≤ packet-version o → packet-version o ≤ 6 → look limit (o ∷ rest) ≡ damaged 1
+  pub one-octet : (protocol : ℕ) (rest : List ℕ) → 1 ≤ protocol → protocol ≤ 7 → look limit (first-octet protocol 0 ∷ rest) ≡ damaged 2
+  -- 3, 4, or the length; and no octet less than the header tells any of these
+  pub below : (protocol code total : ℕ) (between rest : List ℕ) → Written code between total
+      → total < header-length code → look limit (header protocol code between total rest) ≡ damaged 3
+  pub over : (protocol code total : ℕ) (between rest : List ℕ) → Written code between total
+      → header-length code ≤ total → limit < total → look limit (header protocol code between total rest) ≡ damaged 4
+  pub within : (protocol code total : ℕ) (between rest : List ℕ) → Written code between total
+      → header-length code ≤ total → total ≤ limit → look limit (header protocol code between total rest) ≡ whole total
+  pub cut : (protocol code total : ℕ) (between rest : List ℕ) → Written code between total → (k : ℕ)
+      → k < header-length code → look limit (take k (header protocol code between total rest)) ≡ more
+  -- a space packet has 7 octets more than its field says
+  pub space-over : (o a b c field : ℕ) (rest : List ℕ) → packet-version o ≡ 0 → field < 256 ^ 2
+      → limit < field + 7 → look limit (space-header o a b c field rest) ≡ damaged 4
+  pub space-within : (o a b c field : ℕ) (rest : List ℕ) → packet-version o ≡ 0 → field < 256 ^ 2
+      → field + 7 ≤ limit → look limit (space-header o a b c field rest) ≡ whole (field + 7)
+  pub space-cut : (o a b c field : ℕ) (rest : List ℕ) → packet-version o ≡ 0 → (k : ℕ) → k < 6
+      → look limit (take k (space-header o a b c field rest)) ≡ more
+
 -- a refusal of a call that is lent a packet: with 8 its damage is told, whatever else may be the matter; with any other number, or none, nothing
 pub record Refusal (limit : ℕ) (p : List ℕ) (refusal damage : ℕ) : Type 0 where
   pub of-packet : refusal ≡ 8 → Tells limit p damage
@@ -29,6 +67,7 @@ pub record Refusal (limit : ℕ) (p : List ℕ) (refusal damage : ℕ) : Type 0 
 
 -- at every limit that can be set
 pub record Damages : Type 0 where
+  pub as-written : (limit : ℕ) → AsWritten limit
   -- at most one applies, and the reader names it; it finds a header damaged exactly where one does
   pub named : DamageNamed
   pub read : (limit : ℕ) (os : List ℕ) → limit-in-range limit ≡ true → Tells limit os (reading limit os .damage)
