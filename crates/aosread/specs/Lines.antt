@@ -13,6 +13,8 @@ use Rattle.packets.specs.declared.Header.{Header}
 use Rattle.packets.specs.declared.Header.the-variants.{Whole}
 use Rattle.packets.specs.declared.Header.the-variants as header
 use Rattle.frames.specs.declared.Settings.{Settings}
+use Rattle.extractor.specs.declared.Found.{Found}
+use Rattle.extractor.specs.declared.Found.the-variants.{Refused, InFrame, InStore, Damaged, Spent}
 use Rattle.extractor.specs.declared.Entered.{Entered}
 use Rattle.extractor.specs.declared.Entered.the-variants.{Taken}
 use Rattle.extractor.specs.declared.Entered.the-variants as entered
@@ -64,6 +66,14 @@ packet-line (Whole Encapsulation key false size total) = two (ascii "encap ") ke
 packet-line (header.Refused refusal) = []
 packet-line header.More = []
 packet-line (header.Damaged damage) = []
+
+-- of what a step found: damage, or a packet
+unfoldable pub step-line : Found → Header → List ℕ
+step-line (Refused refusal) h = packet-line h
+step-line (InFrame start size idle) h = packet-line h
+step-line (InStore size idle) h = packet-line h
+step-line (Damaged damage) h = last (ascii "damaged ") damage
+step-line Spent h = packet-line h
 
 unfoldable pub verdict-line : Closed → List ℕ
 verdict-line Pass = ascii "pass\n"

@@ -1,8 +1,9 @@
 // The lines of the output, each put into a buffer behind the octets that wait there.
 ghost use Prim.Native.Nat.{_+_, _≤_};
 ghost use lib.ListN.{length};
-ghost use Rattle.aosread.specs.Lines.{ascii, named as named-text, last as last-text, two as two-text, setup-line, entered-line, packet-line, verdict-line, Puts, Room};
+ghost use Rattle.aosread.specs.Lines.{ascii, named as named-text, last as last-text, two as two-text, setup-line, entered-line, packet-line, step-line, verdict-line, Puts, Room};
 use extractor::Entered;
+use extractor::Found;
 use frames::Settings;
 use judge::Closed;
 use packets::Header;
@@ -89,7 +90,7 @@ pub(crate) fn entered(out: &mut [u8], at: usize, e: Entered) -> usize
 }
 
 // A packet, by what its header tells.
-pub(crate) fn packet(out: &mut [u8], at: usize, h: Header) -> usize
+fn packet(out: &mut [u8], at: usize, h: Header) -> usize
     requires { ⌜ Room at (now out) ⌝ }
     ensures { λ r. ⌜ Puts (now (out .entry)) at (packet-line h) (now (out .exit)) r ⌝ }
 {
@@ -115,11 +116,15 @@ pub(crate) fn packet(out: &mut [u8], at: usize, h: Header) -> usize
     }
 }
 
-pub(crate) fn damaged(out: &mut [u8], at: usize, damage: u8) -> usize
+// What a step found: damage, or a packet by what its header tells.
+pub(crate) fn step(out: &mut [u8], at: usize, found: Found, h: Header) -> usize
     requires { ⌜ Room at (now out) ⌝ }
-    ensures { λ r. ⌜ Puts (now (out .entry)) at (last-text (ascii "damaged ") damage) (now (out .exit)) r ⌝ }
+    ensures { λ r. ⌜ Puts (now (out .entry)) at (step-line found h) (now (out .exit)) r ⌝ }
 {
-    last(out, at, b"damaged ", damage as u64)
+    if let Found::Damaged { damage } = found {
+        return last(out, at, b"damaged ", damage as u64);
+    }
+    packet(out, at, h)
 }
 
 pub(crate) fn verdict(out: &mut [u8], at: usize, c: Closed) -> usize

@@ -86,12 +86,8 @@ fn tell<'a>(
     requires { ⌜ Room waiting (now out) ⌝ }
     ensures { λ r. ⌜ Room r (now (out .exit)) ⌝ }
 {
-    if let Found::Damaged { damage } = found {
-        let line = lines::damaged(out, waiting, damage);
-        return make_room(out, line);
-    }
     let header = packets::read_header(s.limit, extractor::show(frame, store, found));
-    let line = lines::packet(out, waiting, header);
+    let line = lines::step(out, waiting, found, header);
     make_room(out, line)
 }
 

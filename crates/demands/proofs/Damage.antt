@@ -15,6 +15,13 @@ use Rattle.packets.specs.Packet.{Look, more, damaged, whole, look, damage-in, c
 use Rattle.packets.specs.Header.{told, reading}
 use Rattle.packets.specs.Unwrap.{unwrap-rows, unwrapping}
 use Rattle.packets.specs.Damage.{applies, Tells}
+use Rattle.packets.proofs.Begun.{damaged-some}
+use Rattle.extractor.proofs.Walked.{walk-torn}
+use Rattle.extractor.specs.Calls.{event-at}
+use Rattle.exports.specs.Packet.{header-numbers, wrap-numbers, unwrap-numbers}
+use Rattle.exports.specs.Mux.{put-numbers}
+use Rattle.exports.specs.Extract.{enter-numbers, step-numbers}
+use Rattle.exports.specs.Relaying.{route-numbers}
 use Rattle.packets.proofs.Damages.{damage-named, look-tells}
 use Rattle.wrapping.specs.Wrap.{wrap-rows, wrapped-total, wrapping}
 use Rattle.relay.specs.Table.{entries-of}
@@ -24,7 +31,7 @@ use Rattle.frames.specs.Frame.{zone-of}
 use Rattle.frames.specs.declared.Settings.{Settings}
 use Rattle.multiplexer.specs.Calls.{to-put, call-rows, answer}
 use Rattle.multiplexer.specs.declared.Mux.{Mux}
-use Rattle.extractor.specs.Extract.{State, held-of, reason-of, damage-of, take-in}
+use Rattle.extractor.specs.Extract.{State, astray, torn, ends, walk, walk-turns, held-of, reason-of, damage-of, take-in}
 use Rattle.extractor.specs.Records.{step-rows, handed-over, step-look, step, step-call}
 use Rattle.extractor.specs.Answers.{found-numbers, step-answer}
 use Rattle.extractor.specs.declared.Extractor.the-variants.{Walking}
@@ -57,47 +64,57 @@ found limit os ranged = (
 
 -- ---- refusals
 
-carried-tells : (limit : ℕ) (p : List ℕ) (n : ℕ) → limit-in-range limit ≡ true → Refusal limit p n (carried n limit p)
+carried-tells : (limit : ℕ) (p : List ℕ) (n : ℕ) → Refusal limit p n (carried n limit p)
 unfolding carried
-carried-tells limit p n ranged = record {
-  of-packet = λ e. rw (eq-eqb n 8 e) (look-tells limit p ranged);
+carried-tells limit p n = record {
+  of-packet = λ ranged e. rw (eq-eqb n 8 e) (look-tells limit p ranged);
   of-others = λ e. rw (ne-eqb n 8 e) refl;
 }
 
 -- nothing is wrong where nothing is refused
 accepted : (limit : ℕ) (p : List ℕ) → Refusal limit p 0 0
-accepted limit p = record { of-packet = λ e. absurd (omega arith); of-others = λ e. refl }
+accepted limit p = record { of-packet = λ ranged e. absurd (omega arith); of-others = λ e. refl }
 
-put : (s : Settings) (m : Mux) (p frame : List ℕ) → limit-in-range (s .limit) ≡ true
+put : (s : Settings) (m : Mux) (p frame : List ℕ)
     → Refusal (s .limit) p (answer s m (to-put p) frame .refusal) (answer s m (to-put p) frame .damage)
 unfolding answer
-put s m p frame ranged =
+put s m p frame =
     test (eqb (first (call-rows s m (to-put p) (length frame))) 0)
     (λ t. rw t (accepted (s .limit) p))
-    (λ t. rw t (carried-tells (s .limit) p _ ranged))
+    (λ t. rw t (carried-tells (s .limit) p _))
 
-unwrapped : (limit : ℕ) (p : List ℕ) → limit-in-range limit ≡ true → Refusal limit p (unwrapping limit p .refusal) (unwrapping limit p .damage)
+unwrapped : (limit : ℕ) (p : List ℕ) → Refusal limit p (unwrapping limit p .refusal) (unwrapping limit p .damage)
 unfolding unwrapping
-unwrapped limit p ranged =
-    test (eqb (first (unwrap-rows limit p)) 0) (λ t. rw t (accepted limit p)) (λ t. rw t (carried-tells limit p _ ranged))
+unwrapped limit p =
+    test (eqb (first (unwrap-rows limit p)) 0) (λ t. rw t (accepted limit p)) (λ t. rw t (carried-tells limit p _))
 
 written-sound : (limit : ℕ) (p ds output : List ℕ) → Refusal limit p (written ds output .refusal) (written ds output .damage)
 unfolding written
 written-sound limit p [] output = accepted limit p
 written-sound limit p (d ∷ ds) output = accepted limit p
 
-routed : (limit : ℕ) (t : Table) (p output : List ℕ) → limit-in-range limit ≡ true
+routed : (limit : ℕ) (t : Table) (p output : List ℕ)
     → Refusal limit p (routing limit t p output .refusal) (routing limit t p output .damage)
 unfolding routing
-routed limit t p output ranged =
+routed limit t p output =
     test (eqb (first (route-rows limit t p (length output))) 0)
     (λ e. rw e (written-sound limit p (path (entries-of t) p) output))
-    (λ e. rw e (carried-tells limit p _ ranged))
+    (λ e. rw e (carried-tells limit p _))
 
 wrapped : (limit protocol extension : ℕ) (unit output : List ℕ) → wrapping limit protocol extension unit output .damage ≡ 0
 unfolding wrapping
 wrapped limit protocol extension unit output =
     test (eqb (first (wrap-rows limit protocol extension (length unit) (wrapped-total protocol (length unit)) (length output))) 0) (λ t. rw t refl) (λ t. rw t refl)
+
+-- ---- events
+
+walked : (limit d : ℕ) (os : List ℕ) → limit-in-range limit ≡ true → applies limit os d ≡ true → walk limit os ≡ ends (torn d ∷ []) astray
+unfolding walk
+walked limit d os ranged t = go os (damage-named limit os ranged .exactly d .1 t)
+  where
+    go : (xs : List ℕ) → look limit xs ≡ damaged d → walk-turns (length xs) limit xs ≡ ends (torn d ∷ []) astray
+    go [] e = absurd (omega (arith, damaged-some limit [] e))
+    go (x ∷ xs) e = walk-torn (length xs) limit (x ∷ xs) e
 
 -- ---- entering
 
@@ -132,6 +149,7 @@ stepped s last h at store f ranged e =
     (look-tells (s .limit) (take h store ++ rest) ranged)
 
 pub damages : Damages
+unfolding event-at header-numbers wrap-numbers unwrap-numbers put-numbers enter-numbers step-numbers route-numbers
 damages = record {
   as-written = as-written;
   named = damage-named;
@@ -141,6 +159,17 @@ damages = record {
   unwrapped = unwrapped;
   routed = routed;
   wrapped = wrapped;
+  walked = walked;
+  event = λ d p. refl;
+  in-c = record {
+    header = λ r. refl;
+    wrapped = λ w. refl;
+    unwrapped = λ u. refl;
+    put = λ a. refl;
+    entered = λ a. refl;
+    stepped = λ a. refl;
+    routed = λ r. refl;
+  };
   entered = entered;
   undropped = undropped;
   stepped = stepped;

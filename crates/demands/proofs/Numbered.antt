@@ -365,6 +365,13 @@ answers = record {
   wrapped = refl;
   unwrapped = refl;
   space-read = refl;
+  damage-found = λ d. refl;
+  damage-read = λ d. refl;
+  damage-seen = λ d. refl;
+  damage-put = λ n d. refl;
+  damage-wrapped = λ n d. refl;
+  damage-unwrapped = λ n d. refl;
+  damage-entered = λ d. refl;
   lengths = refl;
 }
 
@@ -410,6 +417,7 @@ routed = record {
   malformed = refl;
   no-room = refl;
   order = refl;
+  damage-routed = λ n d. refl;
   cases = refl;
 }
 
@@ -492,7 +500,9 @@ damage-carried = record {
   space-packets = refl;
   line-2831 = refl;
   wrapped = refl;
-  others = refl;
+  puts = refl;
+  limits = refl;
+  unmade = refl;
   sound = refl;
 }
 

@@ -2,26 +2,32 @@
 use Prim.Native.Nat.{ℕ, suc, _+_, _^_, _≤_, _<_}
 use mathlib.Core.Logic.{_↔_}
 use mathlib.Core.Path.{_≡_}
-use mathlib.Core.List.{List, _∷_, _++_}
+use mathlib.Core.List.{List, [], _∷_, _++_}
 use mathlib.Core.Bool.{true}
-use lib.ListN.{length, take, drop}
+use lib.ListN.{length, take, drop, getD}
 use Rattle.octets.specs.Basics.{octets, first}
 use Rattle.packets.specs.Packet.{more, damaged, whole, look, limit-in-range, header-length, packet-version}
-use Rattle.packets.specs.Header.{reading}
-use Rattle.packets.specs.Unwrap.{unwrapping}
+use Rattle.packets.specs.Header.{Reading, reading}
+use Rattle.packets.specs.Unwrap.{Unwrapping, unwrapping}
 use Rattle.packets.specs.Damage.{applies, DamageNamed, Tells}
 use Rattle.wrapping.specs.Front.{first-octet, half}
-use Rattle.wrapping.specs.Wrap.{wrapping}
-use Rattle.relay.specs.Route.{routing}
+use Rattle.wrapping.specs.Wrap.{Wrapping, wrapping}
+use Rattle.relay.specs.Route.{Routing, routing}
 use Rattle.relay.specs.declared.Table.{Table}
 use Rattle.frames.specs.Frame.{zone-of}
 use Rattle.frames.specs.declared.Settings.{Settings}
-use Rattle.multiplexer.specs.Calls.{to-put, answer}
+use Rattle.multiplexer.specs.Calls.{Answer, to-put, answer}
 use Rattle.multiplexer.specs.declared.Mux.{Mux}
-use Rattle.extractor.specs.Extract.{State, held-of, take-in}
+use Rattle.extractor.specs.Extract.{State, astray, torn, ends, held-of, walk, take-in}
+use Rattle.extractor.specs.Calls.{event-at}
 use Rattle.extractor.specs.Records.{step-rows}
-use Rattle.extractor.specs.Answers.{step-answer}
+use Rattle.extractor.specs.Answers.{EnterNumbers, StepNumbers, step-answer}
 use Rattle.extractor.specs.declared.Extractor.the-variants.{Walking}
+use Rattle.extractor.specs.declared.Found.the-variants.{Damaged}
+use Rattle.exports.specs.Packet.{header-numbers, wrap-numbers, unwrap-numbers}
+use Rattle.exports.specs.Mux.{put-numbers}
+use Rattle.exports.specs.Extract.{enter-numbers, step-numbers}
+use Rattle.exports.specs.Relaying.{route-numbers}
 
 -- The reader by headers as they are written, at any limit, and with any octets behind: an encapsulation header by its protocol, its
 -- length-of-length, which is `code` here, what stands between its first octet and its length field, and the length in that field.
@@ -62,23 +68,38 @@ pub record AsWritten (limit : ℕ) : Type 0 where
 
 -- a refusal of a call that is lent a packet: with 8 its damage is told, whatever else may be the matter; with any other number, or none, nothing
 pub record Refusal (limit : ℕ) (p : List ℕ) (refusal damage : ℕ) : Type 0 where
-  pub of-packet : refusal ≡ 8 → Tells limit p damage
+  pub of-packet : limit-in-range limit ≡ true → refusal ≡ 8 → Tells limit p damage
   pub of-others : (refusal ≡ 8 → ⊥) → damage ≡ 0
 
--- at every limit that can be set
+-- the damage stands last in each array of an answer that carries it
+pub record LastInC : Type 0 where
+  pub header : (r : Reading) → getD (header-numbers r) 6 0 ≡ r .damage
+  pub wrapped : (w : Wrapping) → getD (wrap-numbers w) 1 0 ≡ w .damage
+  pub unwrapped : (u : Unwrapping) → getD (unwrap-numbers u) 4 0 ≡ u .damage
+  pub put : (a : Answer) → getD (put-numbers a) 2 0 ≡ a .damage
+  pub entered : (a : EnterNumbers) → getD (enter-numbers a) 6 0 ≡ a .damage
+  pub stepped : (a : StepNumbers) → getD (step-numbers a) 4 0 ≡ a .damage
+  pub routed : (r : Routing) → getD (route-numbers r) 2 0 ≡ r .damage
+
+-- what is wrong with a header, by the reader and by every answer that tells it
 pub record Damages : Type 0 where
   pub as-written : (limit : ℕ) → AsWritten limit
-  -- at most one applies, and the reader names it; it finds a header damaged exactly where one does
+  -- at every limit that can be set: at most one applies, and the reader names it; it finds a header damaged exactly where one does
   pub named : DamageNamed
   pub read : (limit : ℕ) (os : List ℕ) → limit-in-range limit ≡ true → Tells limit os (reading limit os .damage)
   pub found : (limit : ℕ) (os : List ℕ) → limit-in-range limit ≡ true → (reading limit os .outcome ≡ 2) ↔ ((d : ℕ) × (applies limit os d ≡ true))
   -- refusal 8
-  pub put : (s : Settings) (m : Mux) (p frame : List ℕ) → limit-in-range (s .limit) ≡ true
+  pub put : (s : Settings) (m : Mux) (p frame : List ℕ)
       → Refusal (s .limit) p (answer s m (to-put p) frame .refusal) (answer s m (to-put p) frame .damage)
-  pub unwrapped : (limit : ℕ) (p : List ℕ) → limit-in-range limit ≡ true → Refusal limit p (unwrapping limit p .refusal) (unwrapping limit p .damage)
-  pub routed : (limit : ℕ) (t : Table) (p output : List ℕ) → limit-in-range limit ≡ true
+  pub unwrapped : (limit : ℕ) (p : List ℕ) → Refusal limit p (unwrapping limit p .refusal) (unwrapping limit p .damage)
+  pub routed : (limit : ℕ) (t : Table) (p output : List ℕ)
       → Refusal limit p (routing limit t p output .refusal) (routing limit t p output .damage)
   pub wrapped : (limit protocol extension : ℕ) (unit output : List ℕ) → wrapping limit protocol extension unit output .damage ≡ 0
+  -- the events of the written rules, and of the calls
+  pub walked : (limit d : ℕ) (os : List ℕ) → limit-in-range limit ≡ true → applies limit os d ≡ true → walk limit os ≡ ends (torn d ∷ []) astray
+  pub event : (d : ℕ) (p : List ℕ) → event-at (Damaged d) p ≡ torn d ∷ []
+  -- in C it is the last number of each answer that carries it
+  pub in-c : LastInC
   -- entering: with reason 3 the damage of the octets held and the zone behind them, and with any other nothing
   pub entered : (s : Settings) (x : State) (f : List ℕ) → limit-in-range (s .limit) ≡ true → take-in s x f .reason ≡ 3
       → Tells (s .limit) (held-of (x .step) ++ zone-of s f) (take-in s x f .damage)

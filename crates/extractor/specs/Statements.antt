@@ -32,7 +32,7 @@ abbrev pub Fit : Settings → List ℕ → Type 0
 Fit s store = (in-range s ≡ true) × (s .limit ≤ length store)
 
 -- From a fresh record, with each frame stepped as it was entered and nothing touched in between, entering and stepping say of
--- every frame of any run what the rules say: its refusal, or its count, replay, lost, dropped and reason, every event with the
+-- every frame of any run what the rules say: its refusal, or its count, replay, lost, dropped, reason and damage, every event with the
 -- octets that `show` hands back, and the state after it.
 abbrev pub SaysTheRules : Type 0
 SaysTheRules = (s : Settings) (store : List ℕ) (fs : List (List ℕ)) → Fit s store → listen s Fresh store fs .told ≡ told s fresh fs

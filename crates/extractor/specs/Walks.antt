@@ -32,7 +32,7 @@ at-in (InStep last h) = 0
 at-in (Walking last h at) = at
 at-in (Leaving last) = 0
 
--- what the octets held say of their packet's length; damage of no number, where the store has fewer
+-- what the octets held say of their packet's length; damage of no number, where the store has fewer, which a call is refused for
 unfoldable pub held-look : Settings → List ℕ → ℕ → Look
 held-look s store h = pick (leb h (length store)) (look (s .limit) (take h store)) (damaged 0)
 

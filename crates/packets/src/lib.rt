@@ -217,18 +217,18 @@ pub fn read_length(limit: usize, start: &[u8]) -> Seen
     }
 }
 
-// What is wrong with a header.
-pub fn damage_in(length: Seen) -> u8
-    ensures { λ r. ⌜ r ≡ damage-in (seen length) ⌝ }
+// What is wrong with a header, by what was seen of it.
+pub fn damage_in(found: Seen) -> u8
+    ensures { λ r. ⌜ r ≡ damage-in (seen found) ⌝ }
 {
-    match length {
+    match found {
         Seen::More => damage::NONE,
         Seen::Damaged { damage } => damage,
         Seen::Whole { .. } => damage::NONE,
     }
 }
 
-// What a refusal says of the packet that was lent: with PACKET what is wrong with its header.
+// What a refusal says of the packet that was lent: with PACKET what is wrong with its header, with any other number nothing.
 pub fn carried(refusal: u8, limit: usize, p: &[u8]) -> u8
     ensures { λ r. ⌜ r ≡ carried refusal limit (now (p .entry)) ⌝ }
 {

@@ -5,6 +5,7 @@ use libc::STDOUT_FILENO;
 use octets::refusals;
 use packets::Header;
 use packets::Kind;
+use packets::damage;
 
 // The phrases, each by its line, from 0, of the text in `numbers`.
 const REFUSED: usize = 0;
@@ -153,10 +154,10 @@ pub(crate) fn refused(refusal: u8) {
     number(REFUSED, refusal as u64);
 }
 
-// A refusal of a call that is lent a packet, or makes one: what is wrong with the header, with the refusal that tells it.
+// A refusal of a call that is lent a packet, or makes one: what is wrong with the header, with the refusal that tells it and with any that should not.
 pub(crate) fn refused_for(refusal: u8, damage: u8) {
     refused(refusal);
-    if refusal == refusals::PACKET {
+    if (refusal == refusals::PACKET) | (damage != damage::NONE) {
         number(DAMAGE, damage as u64);
     }
 }

@@ -42,7 +42,7 @@ of-packets = record {
       (reading-by-row limit os) (told-unrefused os (look limit os)) (λ n. refl)
       (record { free = tt; gives = λ o m. m; one = λ o o′ p q. header-determined p q });
   read-length = λ κs limit os. record { free = tt; gives = λ o m. m; one = λ o o′ p q. seen-determined p q };
-  damage-in = λ length. exactly;
+  damage-in = λ found. exactly;
   header-damage = λ h. exactly;
   carried = λ κs refusal limit p. exactly;
   is-idle = λ κs os. exactly;

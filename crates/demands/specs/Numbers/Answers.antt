@@ -79,6 +79,14 @@ pub record Cases : Type 0 where
       ≡ record { accepted = false; refusal = 8; damage = 2; protocol = 0; extension = 0; start = 0; size = 0 } ∷ says 6 1 4 9 ∷ []
   pub space-read : map space-reads (SpaceRead.Refused 8 ∷ SpaceRead.Read (fields 1 0 2 3 4 5) ∷ [])
       ≡ record { accepted = false; refusal = 8; header = fields 0 0 0 0 0 0 } ∷ reads (fields 1 0 2 3 4 5) ∷ []
+  -- whatever the damage is
+  pub damage-found : (d : ℕ) → of-three (Found.Damaged d) ≡ torn d
+  pub damage-read : (d : ℕ) → answer (Header.Damaged d) ≡ damaged d
+  pub damage-seen : (d : ℕ) → seen (Seen.Damaged d) ≡ packet.damaged d
+  pub damage-put : (n d : ℕ) → answers (Reply.Refused n d (mux 1 2 3 4)) [] .damage ≡ d
+  pub damage-wrapped : (n d : ℕ) → wraps (Wrapped.Refused n d) [] .damage ≡ d
+  pub damage-unwrapped : (n d : ℕ) → unwraps (Unwrapped.Refused n d) .damage ≡ d
+  pub damage-entered : (d : ℕ) → entered-numbers (Entered.Taken (record { count = 1; replay = 1; lost = 2; dropped = 3; reason = 3; damage = d })) .damage ≡ d
   pub lengths : map seen (Seen.More ∷ Seen.Damaged 3 ∷ Seen.Whole 5 ∷ []) ≡ packet.more ∷ packet.damaged 3 ∷ packet.whole 5 ∷ []
 
 -- an answer, the record and the octets that a call leaves, put together: each stands as it is

@@ -11,7 +11,7 @@ use Rattle.wrapping.specs.Wrap.{wrapping}
 use Rattle.relay.specs.Table.{empty}
 use Rattle.relay.specs.Route.{routing}
 use Rattle.multiplexer.specs.Multiplex.{begun}
-use Rattle.multiplexer.specs.Calls.{to-put, to-flush, to-idle, answer}
+use Rattle.multiplexer.specs.Calls.{to-put, to-flush, to-idle, Answer, answer}
 use Rattle.extractor.specs.Answers.{enter-answer, step-answer}
 use Rattle.extractor.specs.declared.Extractor.the-variants.{InStep, Walking}
 use Rattle.demands.specs.Numbers.Samples.{set, small, small-trailed, least, frame, lent, ten}
@@ -45,11 +45,12 @@ eight a b c d = 0xEB ∷ 0x00 ∷ 0x00 ∷ 0x00 ∷ a ∷ b ∷ c ∷ d ∷ []
 pub record Headers : Type 0 where
   -- alone, and with octets behind that would say otherwise
   pub firsts : map (λ o. damage 65542 (o ∷ [])) (from 0 256) ≡ first-octets
-  pub cut : map (λ o. damage 7 (o ∷ 0xFF ∷ [])) (from 0 252) ≡ map (λ o. damage 65542 (o ∷ [])) (from 0 224) ++ (0 ∷ 4 ∷ 0 ∷ 0 ∷ 2 ∷ 4 ∷ 0 ∷ 0 ∷ 2 ∷ 4 ∷ 0 ∷ 0 ∷ 2 ∷ 4 ∷ 0 ∷ 0 ∷ 2 ∷ 4 ∷ 0 ∷ 0 ∷ 2 ∷ 4 ∷ 0 ∷ 0 ∷ 2 ∷ 4 ∷ 0 ∷ 0 ∷ [])
+  pub cut : map (λ o. damage 7 (o ∷ 0xFF ∷ [])) (from 0 256)
+      ≡ replicate 32 0 ++ (replicate 192 1 ++ (0 ∷ 4 ∷ 0 ∷ 0 ∷ 2 ∷ 4 ∷ 0 ∷ 0 ∷ 2 ∷ 4 ∷ 0 ∷ 0 ∷ 2 ∷ 4 ∷ 0 ∷ 0 ∷ 2 ∷ 4 ∷ 0 ∷ 0 ∷ 2 ∷ 4 ∷ 0 ∷ 0 ∷ 2 ∷ 4 ∷ 0 ∷ 0 ∷ 2 ∷ 4 ∷ 0 ∷ 0 ∷ []))
   -- a length below its header, which a space packet's never is
   pub below : map (λ n. damage 65542 (two n)) (0 ∷ 1 ∷ 2 ∷ 255 ∷ []) ≡ 3 ∷ 3 ∷ 0 ∷ 0 ∷ []
-  pub below-four : map (λ n. damage 65542 (four 0 n)) (0 ∷ 2 ∷ 3 ∷ 4 ∷ []) ++ (damage 65542 (four 1 0) ∷ []) ≡ 3 ∷ 3 ∷ 3 ∷ 0 ∷ 0 ∷ []
-  pub below-eight : map (λ n. damage 65542 (eight 0 0 0 n)) (0 ∷ 4 ∷ 7 ∷ 8 ∷ []) ++ (damage 65542 (eight 0 0 1 0) ∷ []) ≡ 3 ∷ 3 ∷ 3 ∷ 0 ∷ 0 ∷ []
+  pub below-four : map (λ n. damage 65542 (four 0 n)) (from 0 5) ++ (damage 65542 (four 1 0) ∷ []) ≡ 3 ∷ 3 ∷ 3 ∷ 3 ∷ 0 ∷ 0 ∷ []
+  pub below-eight : map (λ n. damage 65542 (eight 0 0 0 n)) (from 0 9) ++ (damage 65542 (eight 0 0 1 0) ∷ []) ≡ replicate 8 3 ++ (0 ∷ 0 ∷ [])
   pub spaces : map (λ n. damage 65542 (space 0 n)) (0 ∷ 1 ∷ 255 ∷ []) ≡ 0 ∷ 0 ∷ 0 ∷ []
   -- a length over the limit, at the limit and below it; in every octet of the length
   pub over-two : map (λ limit. damage limit (two 12)) (7 ∷ 11 ∷ 12 ∷ 13 ∷ 65542 ∷ []) ≡ 4 ∷ 4 ∷ 0 ∷ 0 ∷ 0 ∷ []
@@ -97,6 +98,16 @@ packets =
 abbrev pub carried : List ℕ
 carried = 1 ∷ 2 ∷ 3 ∷ 4 ∷ 0 ∷ 0 ∷ 0 ∷ 0 ∷ 1 ∷ 2 ∷ 4 ∷ 4 ∷ []
 
+-- puts of a damaged packet that are refused for something else
+abbrev pub refused-puts : List Answer
+refused-puts =
+    answer (set 66 3 0 12) begun (to-put (0x20 ∷ [])) (lent 18)
+    ∷ answer (set 66 3 10 70000) begun (to-put (0x20 ∷ [])) (lent 18)
+    ∷ answer small begun (to-put (0x20 ∷ [])) (lent 17)
+    ∷ answer small (record { count = 16777216; filled = 0; first = 2047; taken = 0 }) (to-put (0x20 ∷ [])) (lent 18)
+    ∷ answer small (record { count = 0; filled = 0; first = 2047; taken = 1 }) (to-put (0x20 ∷ [])) (lent 18)
+    ∷ []
+
 pub record Refusals : Type 0 where
   pub put : map (λ (p : List ℕ). answer small begun (to-put p) (lent 18) .damage) packets ≡ carried
   pub put-eight : map (λ (p : List ℕ). answer small begun (to-put p) (lent 18) .refusal) packets ≡ replicate 12 8
@@ -108,18 +119,14 @@ pub record Refusals : Type 0 where
   pub space-packets : map (λ limit. unwrapping limit ten .damage) (12 ∷ 10 ∷ 9 ∷ 7 ∷ []) ∷ map (λ limit. unwrapping limit ten .refusal) (12 ∷ 10 ∷ 9 ∷ 7 ∷ []) ∷ []
       ≡ (0 ∷ 0 ∷ 4 ∷ 4 ∷ []) ∷ (8 ∷ 8 ∷ 8 ∷ 8 ∷ []) ∷ []
   -- source 001's packet of line 2831 states 12 and has 8: 4 at M = 10, 0 at 12 and at 1,024
-  pub line-2831 : map (λ limit. map (λ (p : List ℕ). unwrapping limit p .damage) ((0x00 ∷ 0x04 ∷ 0xC0 ∷ 0x00 ∷ 0x00 ∷ 0x05 ∷ 0x01 ∷ 0x02 ∷ []) ∷ [])) (10 ∷ 12 ∷ 1024 ∷ []) ≡ (4 ∷ []) ∷ (0 ∷ []) ∷ (0 ∷ []) ∷ []
+  pub line-2831 : map (λ limit. routing limit empty (0x00 ∷ 0x04 ∷ 0xC0 ∷ 0x00 ∷ 0x00 ∷ 0x05 ∷ 0x01 ∷ 0x02 ∷ []) [] .damage) (10 ∷ 12 ∷ 1024 ∷ []) ≡ 4 ∷ 0 ∷ 0 ∷ []
   -- an empty data unit, and one that would pass M
   pub wrapped : wrapping 12 2 0 [] (lent 12) .damage ∷ wrapping 12 2 0 (lent 11) (lent 12) .damage ∷ [] ≡ 0 ∷ 0 ∷ []
-  -- with another refusal a damaged packet carries none: 1, 2, 10 and 9 of a put; 1 of unwrapping; 1 and 2 of routing
-  pub others : answer (set 66 3 0 12) begun (to-put (0x20 ∷ [])) (lent 18) .damage
-      ∷ answer small begun (to-put (0x20 ∷ [])) (lent 17) .damage
-      ∷ answer small (record { count = 16777216; filled = 0; first = 2047; taken = 0 }) (to-put (0x20 ∷ [])) (lent 18) .damage
-      ∷ answer small (record { count = 0; filled = 0; first = 2047; taken = 1 }) (to-put (0x20 ∷ [])) (lent 18) .damage
-      ∷ unwrapping 6 (0x20 ∷ []) .damage
-      ∷ routing 6 empty (0x20 ∷ []) [] .damage
-      ∷ []
-      ≡ replicate 6 0
+  -- with another refusal a damaged packet carries none: 1, 2, 10 and 9 of a put; 1 of unwrapping, below the limits and above; 1 and 10 of routing
+  pub puts : map (λ (a : Answer). a .refusal) refused-puts ∷ map (λ (a : Answer). a .damage) refused-puts ∷ [] ≡ (1 ∷ 1 ∷ 2 ∷ 10 ∷ 9 ∷ []) ∷ replicate 5 0 ∷ []
+  pub limits : map (λ limit. unwrapping limit (0x20 ∷ []) .damage) (6 ∷ 65543 ∷ 70000 ∷ []) ∷ map (λ limit. routing limit empty (0x20 ∷ []) [] .damage) (6 ∷ 65543 ∷ 70000 ∷ []) ∷ []
+      ≡ replicate 3 0 ∷ replicate 3 0 ∷ []
+  pub unmade : routing 12 (record { count = 33; entries = [] }) (0x20 ∷ []) [] ≡ record { refusal = 10; damage = 0; outcome = 0; count = 0; output = [] }
   pub sound : answer small begun (to-put ten) (lent 18) .damage ∷ answer small begun to-flush (lent 18) .damage ∷ answer small begun to-idle (lent 18) .damage ∷ routing 12 empty ten [] .damage ∷ unwrapping 12 (two 2) .damage ∷ []
       ≡ replicate 5 0
 
@@ -177,7 +184,7 @@ pub record Walks : Type 0 where
       ∷ []
       ≡ 3 ∷ 3 ∷ 3 ∷ 4 ∷ 4 ∷ 4 ∷ []
   pub cut-space : map (λ h. enters (0x00 ∷ 0x05 ∷ 0xC0 ∷ 0x00 ∷ 0x01 ∷ []) h (replicate 8 1)) (1 ∷ 2 ∷ 3 ∷ 4 ∷ 5 ∷ []) ≡ replicate 5 4
-  -- with any other reason none: lost frames before a damaged header, a pointer that differs, nothing held
+  -- with any other reason none: lost frames before a damaged header, a pointer that differs, nothing held, and a pointer that agrees
   pub other-reasons : enter-answer small (InStep 0 1) (0xE9 ∷ lent 12) (frame 2 0x07 0xFF (1 ∷ lent 9)) .answer .damage
       ∷ enter-answer small (InStep 0 1) (0xE9 ∷ lent 12) (frame 1 0x00 0x00 (5 ∷ lent 9)) .answer .damage
       ∷ enter-answer small (InStep 0 0) (lent 12) (frame 1 0x07 0xFF (0x20 ∷ lent 9)) .answer .damage

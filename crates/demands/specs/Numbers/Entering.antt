@@ -63,7 +63,7 @@ abbrev pub enters-as : ℕ → ℕ → ℕ → ℕ → ℕ → ℕ → Extractor
 enters-as count replay lost dropped reason damage next =
     record { answer = record { refusal = 0; outcome = 1; count = count; replay = replay; lost = lost; dropped = dropped; reason = reason; damage = damage }; next = next }
 
--- the same without damage, and of one octet dropped for its header's damage before the frame with count 1
+-- the same without damage, and of octets dropped for their header's damage before the frame with count 1
 abbrev pub says : ℕ → ℕ → ℕ → ℕ → ℕ → Extractor → EnterSaid
 says count replay lost dropped reason next = enters-as count replay lost dropped reason 0 next
 

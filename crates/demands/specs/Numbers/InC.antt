@@ -37,8 +37,8 @@ abbrev pub six : List ℕ
 six = 0xFA ∷ 0x05 ∷ 0x00 ∷ 0x06 ∷ 0xAA ∷ 0xBB ∷ []
 
 -- packets that are damaged: each of the four
-abbrev pub torn : List (List ℕ)
-torn = (0x20 ∷ []) ∷ (0xEC ∷ []) ∷ (0xE9 ∷ 0x01 ∷ []) ∷ (0xE9 ∷ 0x0D ∷ []) ∷ []
+abbrev pub damaged-packets : List (List ℕ)
+damaged-packets = (0x20 ∷ []) ∷ (0xEC ∷ []) ∷ (0xE9 ∷ 0x01 ∷ []) ∷ (0xE9 ∷ 0x0D ∷ []) ∷ []
 
 -- headers: more octets needed, a space packet, an idle packet, damaged; a limit that cannot be, and an array that is short
 pub record Packets : Type 0 where
@@ -48,7 +48,7 @@ pub record Packets : Type 0 where
       ∷ left 0 [] [] (3 ∷ 2 ∷ 1 ∷ 0 ∷ 2 ∷ 7 ∷ 0 ∷ 0xFF ∷ [])
       ∷ []
   -- damage 1 to 4
-  pub damaged : map (λ (os : List ℕ). header-leaves 12 os (lent 8)) torn ≡ map (λ (d : ℕ). left 0 [] [] (2 ∷ 0 ∷ 0 ∷ 0 ∷ 0 ∷ 0 ∷ d ∷ 0xFF ∷ [])) (1 ∷ 2 ∷ 3 ∷ 4 ∷ [])
+  pub damaged : map (λ (os : List ℕ). header-leaves 12 os (lent 8)) damaged-packets ≡ map (λ (d : ℕ). left 0 [] [] (2 ∷ 0 ∷ 0 ∷ 0 ∷ 0 ∷ 0 ∷ d ∷ 0xFF ∷ [])) (1 ∷ 2 ∷ 3 ∷ 4 ∷ [])
   pub refused : header-leaves 6 ten (lent 7) ≡ left 1 [] [] (0 ∷ 0 ∷ 0 ∷ 0 ∷ 0 ∷ 0 ∷ 0 ∷ [])
   pub short : header-leaves 6 ten (lent 6) ≡ left 2 [] [] (lent 6)
   pub formed : map (λ (p : List ℕ). formed-leaves 12 p (lent 1)) (ten ∷ six ∷ [] ∷ [])
@@ -57,7 +57,7 @@ pub record Packets : Type 0 where
   pub not-wrapped : wrap-leaves 12 6 5 [] (lent 7) (lent 2) ∷ wrap-leaves 12 6 5 (lent 9) (lent 7) (lent 2) ∷ [] ≡ each (lent 2) (left 8 [] (lent 7) (0 ∷ 0 ∷ []))
   pub unwrapped : unwrap-leaves 12 six (lent 5) ≡ left 0 [] [] (6 ∷ 5 ∷ 4 ∷ 2 ∷ 0 ∷ [])
   -- damage 1 to 4; and 0 for a space packet
-  pub not-unwrapped : map (λ (p : List ℕ). unwrap-leaves 12 p (lent 6)) (torn ++ (ten ∷ [])) ≡ map (λ (d : ℕ). left 8 [] [] (0 ∷ 0 ∷ 0 ∷ 0 ∷ d ∷ 0xFF ∷ [])) (1 ∷ 2 ∷ 3 ∷ 4 ∷ 0 ∷ [])
+  pub not-unwrapped : map (λ (p : List ℕ). unwrap-leaves 12 p (lent 6)) (damaged-packets ++ (ten ∷ [])) ≡ map (λ (d : ℕ). left 8 [] [] (0 ∷ 0 ∷ 0 ∷ 0 ∷ d ∷ 0xFF ∷ [])) (1 ∷ 2 ∷ 3 ∷ 4 ∷ 0 ∷ [])
   pub unit : unit-leaves (6 ∷ 5 ∷ 4 ∷ 2 ∷ 0 ∷ []) six (lent 2) ≡ left 0 [] [] (4 ∷ 2 ∷ [])
   pub no-unit : unit-leaves (6 ∷ 5 ∷ 4 ∷ 3 ∷ 0 ∷ []) six (lent 2) ≡ left 0 [] [] (0 ∷ 0 ∷ [])
   -- a space packet's header: total; version, type, secondary header, APID, flags, count, length field
@@ -73,7 +73,7 @@ pub record Multiplexer : Type 0 where
   pub full : mux-leaves (to-put seven) 3 put-numbers settings (4 ∷ 5 ∷ 0 ∷ 0 ∷ []) (lent 18) (lent 3)
       ≡ left 0 (5 ∷ 0 ∷ 2047 ∷ 5 ∷ []) (frame 4 0x00 0x00 (lent 5 ++ (0x00 ∷ 0x05 ∷ 0xC0 ∷ 0x00 ∷ 0x00 ∷ []))) (1 ∷ 0 ∷ 0 ∷ [])
   -- damage 1 to 4
-  pub damaged : map (λ (p : List ℕ). mux-leaves (to-put p) 3 put-numbers settings (4 ∷ 0 ∷ 2047 ∷ 0 ∷ []) (lent 18) (lent 3)) torn
+  pub damaged : map (λ (p : List ℕ). mux-leaves (to-put p) 3 put-numbers settings (4 ∷ 0 ∷ 2047 ∷ 0 ∷ []) (lent 18) (lent 3)) damaged-packets
       ≡ map (λ (d : ℕ). left 8 (4 ∷ 0 ∷ 2047 ∷ 0 ∷ []) (lent 18) (0 ∷ 0 ∷ d ∷ [])) (1 ∷ 2 ∷ 3 ∷ 4 ∷ [])
   pub nothing : mux-leaves to-flush 1 flush-numbers settings (4 ∷ 0 ∷ 2047 ∷ 0 ∷ []) (lent 18) (lent 1)
       ≡ left 0 (4 ∷ 0 ∷ 2047 ∷ 0 ∷ []) (lent 18) (1 ∷ [])
@@ -105,7 +105,7 @@ pub record Extractor : Type 0 where
   pub spent : step-leaves settings (3 ∷ 1 ∷ 0 ∷ 10 ∷ []) store (frame 1 0x00 0x03 rest) (lent 5)
       ≡ left 0 (2 ∷ 1 ∷ 0 ∷ 0 ∷ []) store (4 ∷ 0 ∷ 0 ∷ 0 ∷ 0 ∷ [])
   -- damage 1 to 4 of a step; and 3 and 4 at entering, where the header of an octet held goes on with 1 and with 13
-  pub damaged : map (λ (p : List ℕ). step-leaves settings (3 ∷ 1 ∷ 0 ∷ 0 ∷ []) store (frame 1 0x00 0x00 (p ++ lent (10 - length p))) (lent 5)) torn
+  pub damaged : map (λ (p : List ℕ). step-leaves settings (3 ∷ 1 ∷ 0 ∷ 0 ∷ []) store (frame 1 0x00 0x00 (p ++ lent (10 - length p))) (lent 5)) damaged-packets
       ≡ map (λ (d : ℕ). left 0 (4 ∷ 1 ∷ 0 ∷ 0 ∷ []) store (3 ∷ 0 ∷ 0 ∷ 0 ∷ d ∷ [])) (1 ∷ 2 ∷ 3 ∷ 4 ∷ [])
   pub dropped : map (λ (stated : ℕ). enter-leaves settings (2 ∷ 0 ∷ 1 ∷ 0 ∷ []) store (frame 1 0x07 0xFF (stated ∷ lent 9)) (lent 7)) (1 ∷ 13 ∷ [])
       ≡ map (λ (d : ℕ). left 0 (4 ∷ 1 ∷ 0 ∷ 0 ∷ []) [] (1 ∷ 1 ∷ 0 ∷ 0 ∷ 1 ∷ 3 ∷ d ∷ [])) (3 ∷ 4 ∷ [])
@@ -158,7 +158,7 @@ pub record Relay : Type 0 where
   pub no-room : route-leaves 12 paths ten (lent 1) (lent 3) ≡ left 2 [] (lent 1) (0 ∷ 0 ∷ 0 ∷ [])
   -- 1 and 8 in their turn, 8 with damage 1 to 4; 10 for more entries than 32, an APID above 2,046, a destination above 255, the same pair twice, and a number past the entries
   pub refused : route-leaves 6 paths ten (lent 2) (lent 3) ∷ route-leaves 4294967308 paths ten (lent 2) (lent 3) ∷ [] ≡ each (lent 2) (left 1 [] (lent 2) (0 ∷ 0 ∷ 0 ∷ []))
-  pub damaged : map (λ (p : List ℕ). route-leaves 12 paths p (lent 2) (lent 3)) torn ≡ map (λ (d : ℕ). left 8 [] (lent 2) (0 ∷ 0 ∷ d ∷ [])) (1 ∷ 2 ∷ 3 ∷ 4 ∷ [])
+  pub damaged : map (λ (p : List ℕ). route-leaves 12 paths p (lent 2) (lent 3)) damaged-packets ≡ map (λ (d : ℕ). left 8 [] (lent 2) (0 ∷ 0 ∷ d ∷ [])) (1 ∷ 2 ∷ 3 ∷ 4 ∷ [])
   pub unmade : map (λ (ns : List ℕ). route-leaves 12 ns ten (lent 2) (lent 3))
       ((33 ∷ many 32 [])
       ∷ table (1 ∷ 2047 ∷ 0 ∷ [])

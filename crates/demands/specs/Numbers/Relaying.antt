@@ -117,5 +117,6 @@ pub record Ways : Type 0 where
       ∷ routing 12 relay seven [] .refusal
       ∷ []
       ≡ 1 ∷ 10 ∷ 8 ∷ 2 ∷ []
-  -- what each case of the answer means
+  -- what each case of the answer means, whatever the damage is
+  pub damage-routed : (n d : ℕ) → routes (Routed.Refused n d) [] .damage ≡ d
   pub cases : map (λ (r : Routed). routes r (7 ∷ [])) (Routed.Refused 8 4 ∷ Routed.Refused 2 0 ∷ Routed.NoPath ∷ Routed.Path 3 ∷ []) ≡ hurt 4 (7 ∷ []) ∷ refuses 2 (7 ∷ []) ∷ nowhere (7 ∷ []) ∷ sends 3 (7 ∷ []) ∷ []

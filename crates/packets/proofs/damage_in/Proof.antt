@@ -13,7 +13,7 @@ returns c = rw (c .enum-told .given .1) refl
 
 returns-2 : tie.Need-returns-2
 unfolding damage-in seen
-returns-2 c = rw (c .before .length .given .1) refl
+returns-2 c = rw (c .before .found .given .1) refl
 
 returns-3 : tie.Need-returns-3
 unfolding damage-in seen
