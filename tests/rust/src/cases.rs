@@ -449,6 +449,22 @@ fn named_damage(cases: &mut Cases) {
     }
     let firsts = (0..=255).fold(Run::new(1, 7), |run, first| run.next(0, 0, &[first]));
     cases.add("damage-every-first-octet", firsts.end());
+    // What does not count: type, secondary header, flags and sequence count; other protocols, user,
+    // extension and reserved bits. Damage 3, 4, and none, of each header.
+    let others: [&[u8]; 10] = [
+        &[0xE5, 0x01],
+        &[0xFD, 0x41],
+        &[0xE6, 0xF5, 0x00, 0x03],
+        &[0xFE, 0xFF, 0x00, 0x41],
+        &[0xF2, 0xFF, 0x00, 0x04],
+        &[0xFB, 0xFF, 0xFF, 0xFF, 0x00, 0x00, 0x00, 0x07],
+        &[0xE7, 0xFF, 0xFF, 0xFF, 0x00, 0x00, 0x00, 0x41],
+        &[0xF7, 0xFF, 0xFF, 0xFF, 0x00, 0x00, 0x00, 0x08],
+        &[0x1F, 0xFF, 0x3F, 0xFF, 0x00, 0x3A],
+        &[0x18, 0x05, 0x7F, 0xFF, 0x00, 0x00],
+    ];
+    let run = others.iter().fold(Run::new(12, 64), |run, header| run.next(0, 0, header));
+    cases.add("damage-with-the-bits-that-do-not-count", run.end());
 }
 
 fn zones(cases: &mut Cases) {
