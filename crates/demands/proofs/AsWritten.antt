@@ -1,17 +1,17 @@
 -- What the reader says of headers as they are written.
 -- Assumes nothing.
-use mathlib.Core.Path.{_≡_, refl, sym, ap, _∙_}
+use mathlib.Core.Path.{_≡_, refl, ap, _∙_}
 use mathlib.Core.List.{List, [], _∷_, _++_}
-use Prim.Native.Nat.{ℕ, zero, suc, _+_, _-_, _/_, _^_, _≤_, _<_}
+use Prim.Native.Nat.{ℕ, zero, suc, _+_, _^_, _≤_, _<_}
 use native.Mathlib.Omega.{arith}
-use lib.ListN.{length, take, drop, getD, length-append, length-take}
+use lib.ListN.{length, take, length-append, length-take}
 use lib.Seq.{take-at, drop-at}
 use borrow.Author.Tests.{lt-ltb, le-ltb}
 use Rattle.octets.specs.Basics.{octets, number, number-at}
 use Rattle.octets.proofs.Numbers.{number-within, number-octets}
 use Rattle.octets.proofs.Written.{length-octets}
-use Rattle.packets.specs.Packet.{Look, more, damaged, whole, look, sized, counted, header-length, encapsulation, packet-version, protocol-of, length-of-length}
-use Rattle.packets.proofs.Sizes.{header-positive, two-halves}
+use Rattle.packets.specs.Packet.{more, damaged, whole, look, sized, counted, header-length, encapsulation, packet-version, protocol-of, length-of-length}
+use Rattle.packets.proofs.Sizes.{two-halves}
 use Rattle.packets.proofs.Looks.{look-none, look-space, look-encapsulation, look-other, none-damaged, half-read, counted-short, counted-long}
 use Rattle.wrapping.specs.Front.{first-octet, half}
 use Rattle.wrapping.proofs.Fronts.{first-version, first-protocol, first-code}

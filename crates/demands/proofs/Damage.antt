@@ -16,12 +16,6 @@ use Rattle.packets.specs.Header.{told, reading}
 use Rattle.packets.specs.Unwrap.{unwrap-rows, unwrapping}
 use Rattle.packets.specs.Damage.{applies, Tells}
 use Rattle.packets.proofs.Begun.{damaged-some}
-use Rattle.extractor.proofs.Walked.{walk-torn}
-use Rattle.extractor.specs.Calls.{event-at}
-use Rattle.exports.specs.Packet.{header-numbers, wrap-numbers, unwrap-numbers}
-use Rattle.exports.specs.Mux.{put-numbers}
-use Rattle.exports.specs.Extract.{enter-numbers, step-numbers}
-use Rattle.exports.specs.Relaying.{route-numbers}
 use Rattle.packets.proofs.Damages.{damage-named, look-tells}
 use Rattle.wrapping.specs.Wrap.{wrap-rows, wrapped-total, wrapping}
 use Rattle.relay.specs.Table.{entries-of}
@@ -33,8 +27,14 @@ use Rattle.multiplexer.specs.Calls.{to-put, call-rows, answer}
 use Rattle.multiplexer.specs.declared.Mux.{Mux}
 use Rattle.extractor.specs.Extract.{State, astray, torn, ends, walk, walk-turns, held-of, reason-of, damage-of, take-in}
 use Rattle.extractor.specs.Records.{step-rows, handed-over, step-look, step, step-call}
+use Rattle.extractor.specs.Calls.{event-at}
 use Rattle.extractor.specs.Answers.{found-numbers, step-answer}
 use Rattle.extractor.specs.declared.Extractor.the-variants.{Walking}
+use Rattle.extractor.proofs.Walked.{walk-torn}
+use Rattle.exports.specs.Packet.{header-numbers, wrap-numbers, unwrap-numbers}
+use Rattle.exports.specs.Mux.{put-numbers}
+use Rattle.exports.specs.Extract.{enter-numbers, step-numbers}
+use Rattle.exports.specs.Relaying.{route-numbers}
 use Rattle.demands.specs.Damage.{Refusal, Damages}
 use Rattle.demands.proofs.AsWritten.{as-written}
 
