@@ -85,7 +85,8 @@ pub(crate) fn at_hand(n: usize, length: Seen) -> Seen
     }
 }
 
-// What the octets held say of their packet's length; damage of no number, where the store has fewer, which the call is then refused for. No more than their header is read.
+// What the octets held say of their packet's length; damage of no number, where the store has fewer, which the call is then refused
+// for. No more than their header is read.
 pub(crate) fn stated(s: Settings, x: Extractor, store: &[u8]) -> Seen
     ensures { λ r. ⌜ Says s (now (store .entry)) (held-in x) r ⌝ }
 {

@@ -215,7 +215,8 @@ fn send(d: Listed, out: &mut [u8]) -> Routed
     Routed::Path { count }
 }
 
-// Routes a packet of `len` octets by what its header tells, its damage too, where limit and table are in order. No table has an entry for idle packets.
+// Routes a packet of `len` octets by what its header tells, its damage too, where limit and table are in order. No table has an
+// entry for idle packets.
 fn by_header(t: Table, header: Header, len: usize, out: &mut [u8]) -> Routed
     requires { ⌜ is-table t ≡ true ⌝ }
     ensures { λ r. ⌜ ((limit : ℕ) (p : List ℕ) → limit-in-range limit ≡ true → len ≡ length p → answer header ≡ reading limit p → routes r (now (out .exit)) ≡ routing limit t p (now (out .entry))) ⌝ }

@@ -154,7 +154,8 @@ pub(crate) fn refused(refusal: u8) {
     number(REFUSED, refusal as u64);
 }
 
-// A refusal of a call that is lent a packet, or makes one: what is wrong with the header, with the refusal that tells it and with any that should not.
+// A refusal of a call that is lent a packet, or makes one, and what is wrong with the header: with the refusal that tells it, and with
+// any that should not.
 pub(crate) fn refused_for(refusal: u8, damage: u8) {
     refused(refusal);
     if (refusal == refusals::PACKET) | (damage != damage::NONE) {
