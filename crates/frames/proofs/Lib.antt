@@ -1,10 +1,12 @@
 pub mod Accepted
+pub mod Editions
 pub mod Framed
 pub mod Headings
 pub mod Heads
 pub mod ReadBack
 pub mod Rows
 pub mod Settled
+pub mod Signals
 pub mod Theorems
 pub mod Wheel
 pub mod Worth

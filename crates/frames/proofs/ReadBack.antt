@@ -3,10 +3,10 @@
 use mathlib.Core.Path.{_≡_, sym, ap, _∙_}
 use mathlib.Core.List.{List, _++_, append-assoc}
 use mathlib.Core.Bool.{Bool, true, false}
-use Prim.Native.Nat.{ℕ, _+_, _-_, _%_, _^_, _≤_, _<_}
-use native.Mathlib.Nat.{mod-eq-of-lt, mod-one}
+use Prim.Native.Nat.{ℕ, _+_, _-_, _/_, _%_, _^_, _≤_, _<_}
+use native.Mathlib.Nat.{lt-of-lt-of-le, mod-eq-of-lt}
 use native.Mathlib.Omega.{arith}
-use lib.Dec.{lit<}
+use lib.Pow.{pow-mono}
 use lib.ListN.{length, take, drop, length-append, take-append-drop}
 use borrow.Author.Tests.{eq-eqb}
 use lib.Seq.{take-at, drop-at, take-add}
@@ -18,24 +18,26 @@ use Rattle.octets.proofs.Numbers.{number-octets, octets-again, run-lt}
 use Rattle.octets.proofs.Written.{length-octets}
 use Rattle.trailer.specs.Trailer.{sent, wrong}
 use Rattle.trailer.proofs.Setting.{right-sent}
-use Rattle.frames.specs.Link.{head-word, headers, around, primary, zone-head, version-place, spacecraft-place, channel-place, count-place, replay-place, spare-place, count-width}
+use Rattle.frames.specs.Edition.{own-width, count-place, replay-place, cycle-width, cycle-at, count-in, signals, signalling}
+use Rattle.frames.specs.Link.{head-word, headers, around, primary, zone-head, version-place, spacecraft-place, channel-place, count-width}
 use Rattle.frames.specs.Shape.{shape-length, shape-zone, pointer-at, spare-above, shape-unused, shape-rows, word-of}
 use Rattle.frames.specs.Frame.{in-range, packet-shape, frame-rows, zone-of, count, replay, zone-spare-place, pointer, pointer-place, pointer-word, head}
 use Rattle.frames.specs.Statements.{HeadersBack}
+use Rattle.frames.specs.declared.Edition.{Edition}
 use Rattle.frames.specs.declared.Link.{Link}
 use Rattle.frames.specs.declared.Settings.{Settings}
 use Rattle.frames.specs.declared.shape.Shape.{Shape}
 use Rattle.frames.proofs.Rows.{SoundHeader, header-taken, sound-frame}
 use Rattle.frames.proofs.Settled.{Linked, settled}
-use Rattle.frames.proofs.Wheel.{count-lt}
+use Rattle.frames.proofs.Signals.{Signalled, signalled-by, signals-by, signals-agree, signalling-lt, signalling-within, cycle-narrow, replay-in, usage-in, spare-in, no-cycle-in, cycle-in, count-own, count-cycle, count-again}
 
 -- the word of the frame's own header, as its fields are put in one after the other
 module _ (l : Link) (c r : ℕ) where
-  abbrev flagged : ℕ
-  flagged = write replay-place r 0
+  abbrev signal : ℕ
+  signal = signalling (l .edition) c r
 
   abbrev counted : ℕ
-  counted = write count-place c flagged
+  counted = write count-place c signal
 
   abbrev channelled : ℕ
   channelled = write channel-place (l .channel) counted
@@ -43,11 +45,11 @@ module _ (l : Link) (c r : ℕ) where
   abbrev crafted : ℕ
   crafted = write spacecraft-place (l .spacecraft) channelled
 
-  flagged-lt : flagged < 2 ^ 64
-  flagged-lt = placed-lt 0 7 1 r (lit< tt) (omega arith)
+  signal-lt : signal < 2 ^ 64
+  signal-lt = signalling-lt (l .edition) c r
 
   counted-lt : counted < 2 ^ 64
-  counted-lt = placed-lt flagged 8 24 c flagged-lt (omega arith)
+  counted-lt = placed-lt signal 8 own-width c signal-lt (omega arith)
 
   channelled-lt : channelled < 2 ^ 64
   channelled-lt = placed-lt counted 32 6 (l .channel) counted-lt (omega arith)
@@ -68,9 +70,9 @@ module _ (l : Link) (c r : ℕ) where
   under-channel place width h =
       under-craft place width (omega arith) ∙ placed-below counted 32 6 (l .channel) counted-lt (omega arith) place width h
 
-  under-count : (place width : ℕ) → place + width ≤ 8 → field (head-word l c r) place width ≡ field flagged place width
+  under-count : (place width : ℕ) → place + width ≤ 8 → field (head-word l c r) place width ≡ field signal place width
   under-count place width h =
-      under-channel place width (omega arith) ∙ placed-below flagged 8 24 c flagged-lt (omega arith) place width h
+      under-channel place width (omega arith) ∙ placed-below signal 8 own-width c signal-lt (omega arith) place width h
 
   pub version-written : read version-place (head-word l c r) ≡ 1
   unfolding head-word
@@ -88,24 +90,35 @@ module _ (l : Link) (c r : ℕ) where
       ∙ placed-read counted 32 6 (l .channel) counted-lt (omega arith)
       ∙ mod-eq-of-lt (omega arith)
 
-  pub count-written : c < 2 ^ count-width l → read count-place (head-word l c r) ≡ c
+  pub own-written : read count-place (head-word l c r) ≡ c % 2 ^ own-width
+  own-written = under-channel 8 own-width (omega arith) ∙ placed-read signal 8 own-width c signal-lt (omega arith)
+
+  pub cycle-written : read (cycle-at (l .edition)) (head-word l c r) ≡ c / 2 ^ own-width % 2 ^ cycle-width (l .edition)
+  cycle-written = under-count 0 (cycle-width (l .edition)) (omega (arith, cycle-narrow (l .edition))) ∙ cycle-in (l .edition) c r
+
+  pub count-written : c < 2 ^ count-width l → count-in (l .edition) (head-word l c r) ≡ c
   unfolding count-width
-  count-written h =
-      under-channel 8 24 (omega arith) ∙ placed-read flagged 8 24 c flagged-lt (omega arith) ∙ mod-eq-of-lt h
+  count-written h = count-again (l .edition) c (head-word l c r) h cycle-written own-written
 
   pub replay-written : r < 2 → read replay-place (head-word l c r) ≡ r
-  replay-written h = under-count 7 1 (omega arith) ∙ placed-read 0 7 1 r (lit< tt) (omega arith) ∙ mod-eq-of-lt h
+  replay-written h = under-count 7 1 (omega arith) ∙ replay-in (l .edition) c r ∙ mod-eq-of-lt h
 
-  pub spare-written : read spare-place (head-word l c r) ≡ 0
-  unfolding field
-  spare-written = under-count 0 7 (omega arith) ∙ placed-below 0 7 1 r (lit< tt) (omega arith) 0 7 (omega arith)
+  pub signal-fields : Signalled (l .edition) (head-word l c r)
+  signal-fields = record {
+    usage-right = under-count 6 1 (omega arith) ∙ usage-in (l .edition) c r;
+    spare-clear = under-count 4 2 (omega arith) ∙ spare-in (l .edition) c r;
+    cycle-clear = λ none. under-count 0 4 (omega arith) ∙ no-cycle-in (l .edition) c r none;
+  }
+
+  pub signal-written : signals (l .edition) (head-word l c r) ≡ true
+  signal-written = signals-by (l .edition) (head-word l c r) signal-fields
 
   -- nothing stands above the six octets
   pub head-word-lt : head-word l c r < 2 ^ 48
   unfolding head-word
   head-word-lt =
-      let flag : flagged < 2 ^ 48 = placed-within 0 7 1 r (lit< tt) (omega arith) 48 (lit< tt) (omega arith) in
-      let count : counted < 2 ^ 48 = placed-within flagged 8 24 c flagged-lt (omega arith) 48 flag (omega arith) in
+      let octet : signal < 2 ^ 48 = lt-of-lt-of-le (signalling-within (l .edition) c r) (pow-mono {i = 8} {j = 48} (omega arith)) in
+      let count : counted < 2 ^ 48 = placed-within signal 8 own-width c signal-lt (omega arith) 48 octet (omega arith) in
       let channel : channelled < 2 ^ 48 = placed-within counted 32 6 (l .channel) counted-lt (omega arith) 48 count (omega arith) in
       let craft : crafted < 2 ^ 48 = placed-within channelled 38 8 (l .spacecraft) channelled-lt (omega arith) 48 channel (omega arith) in
       placed-within crafted 46 2 1 crafted-lt (omega arith) 48 craft (omega arith)
@@ -150,9 +163,9 @@ headers-back l width c p f bounds narrow wheel short headed =
       version-back = ap (read version-place) word ∙ version-written l c 0;
       spacecraft-back = ap (read spacecraft-place) word ∙ spacecraft-written l c 0 (bounds .spacecraft-most);
       channel-back = ap (read channel-place) word ∙ channel-written l c 0 (bounds .channel-most);
-      count-back = ap (read count-place) word ∙ count-written l c 0 wheel;
+      count-back = ap (count-in (l .edition)) word ∙ count-written l c 0 wheel;
       replay-back = ap (read replay-place) word ∙ replay-written l c 0 (omega arith);
-      spare-back = ap (read spare-place) word ∙ spare-written l c 0;
+      signal-back = ap (signals (l .edition)) word ∙ signal-written l c 0;
       zone-spare-back = ap (λ (z : ℕ). field z width (16 - width)) zone ∙ foot-above width p (omega arith) width (16 - width) (omega arith);
       pointer-back = ap (λ (z : ℕ). field z 0 width) zone ∙ foot-read width p (omega arith) short;
     }
@@ -164,7 +177,7 @@ back-sound unused h used = record {
   version-right = h .version-back;
   spacecraft-right = h .spacecraft-back;
   channel-right = h .channel-back;
-  spare-clear = h .spare-back;
+  signal-right = h .signal-back;
   zone-spare-clear = h .zone-spare-back;
   pointer-used = ap unused (h .pointer-back) ∙ used;
 }
@@ -173,16 +186,18 @@ back-sound unused h used = record {
 
 -- a word of six octets whose fields are those of a header is that header's word
 pub word-by-fields : (l : Link) (w : ℕ) → w < 2 ^ 48 → read version-place w ≡ 1 → read spacecraft-place w ≡ l .spacecraft
-    → read channel-place w ≡ l .channel → read spare-place w ≡ 0 → l .spacecraft ≤ 255 → l .channel ≤ 62
-    → w ≡ head-word l (read count-place w) (read replay-place w)
+    → read channel-place w ≡ l .channel → signals (l .edition) w ≡ true → l .spacecraft ≤ 255 → l .channel ≤ 62
+    → w ≡ head-word l (count-in (l .edition) w) (read replay-place w)
 word-by-fields l w h v sc ch sp scl chl =
-    let c : ℕ = read count-place w in
+    let e : Edition = l .edition in
+    let c : ℕ = count-in e w in
     let r : ℕ = read replay-place w in
     let b : ℕ = head-word l c r in
-    let none : w % 2 ^ 0 ≡ b % 2 ^ 0 = mod-one w ∙ sym (mod-one b) in
-    let spare : w % 2 ^ 7 ≡ b % 2 ^ 7 = agree-on w b 0 7 none (sp ∙ sym (spare-written l c r)) in
-    let replay : w % 2 ^ 8 ≡ b % 2 ^ 8 = agree-on w b 7 1 spare (sym (replay-written l c r (field-lt w 7 1))) in
-    let count : w % 2 ^ 32 ≡ b % 2 ^ 32 = agree-on w b 8 24 replay (sym (count-written l c r (count-lt l w))) in
+    let cycles : read (cycle-at e) w ≡ read (cycle-at e) b =
+    sym (cycle-written l c r ∙ ap (_% 2 ^ cycle-width e) (count-cycle e w) ∙ mod-eq-of-lt (field-lt w 0 (cycle-width e))) in
+    let seven : w % 2 ^ 7 ≡ b % 2 ^ 7 = signals-agree e w b (signalled-by e w sp) (signal-fields l c r) cycles in
+    let replay : w % 2 ^ 8 ≡ b % 2 ^ 8 = agree-on w b 7 1 seven (sym (replay-written l c r (field-lt w 7 1))) in
+    let count : w % 2 ^ 32 ≡ b % 2 ^ 32 = agree-on w b 8 own-width replay (sym (own-written l c r ∙ count-own e w)) in
     let channel : w % 2 ^ 38 ≡ b % 2 ^ 38 = agree-on w b 32 6 count (ch ∙ sym (channel-written l c r chl)) in
     let craft : w % 2 ^ 46 ≡ b % 2 ^ 46 = agree-on w b 38 8 channel (sc ∙ sym (spacecraft-written l c r scl)) in
     let version : w % 2 ^ 48 ≡ b % 2 ^ 48 = agree-on w b 46 2 craft (v ∙ sym (version-written l c r)) in
@@ -209,12 +224,12 @@ frame-parts l f o h =
 -- a frame whose headers are right is these, written again from what is read, and what follows them; for any width of the pointer
 pub headers-again : (l : Link) (f : List ℕ) (width spare : ℕ) (unused : Bool) → Linked l → AllOctets f → 8 ≤ length f → width ≤ 16
     → SoundHeader l (primary l f) spare unused → field (zone-head l f) width (16 - width) ≡ 0
-    → f ≡ headers l (read count-place (primary l f)) (read replay-place (primary l f)) (placed 0 0 width (field (zone-head l f) 0 width)) ++ drop 8 f
+    → f ≡ headers l (count-in (l .edition) (primary l f)) (read replay-place (primary l f)) (placed 0 0 width (field (zone-head l f) 0 width)) ++ drop 8 f
 unfolding headers
 headers-again l f width spare unused bounds o room narrow h clear =
-    let w : primary l f ≡ head-word l (read count-place (primary l f)) (read replay-place (primary l f)) =
+    let w : primary l f ≡ head-word l (count-in (l .edition) (primary l f)) (read replay-place (primary l f)) =
     word-by-fields l (primary l f) (primary-lt l f o (omega arith))
-    (h .version-right) (h .spacecraft-right) (h .channel-right) (h .spare-clear) (bounds .spacecraft-most) (bounds .channel-most) in
+    (h .version-right) (h .spacecraft-right) (h .channel-right) (h .signal-right) (bounds .spacecraft-most) (bounds .channel-most) in
     let z : zone-head l f ≡ placed 0 0 width (field (zone-head l f) 0 width) =
     foot-only 16 width (zone-head l f) (omega arith) narrow (zone-head-lt l f o room) clear in
     frame-parts l f o room ∙ cc (w, z)
@@ -231,7 +246,7 @@ shape-taken h back long right used = rw (eq-eqb _ _ long, right) (header-taken (
 abbrev headers-of : Shape → List ℕ → List ℕ
 headers-of h f =
     let head : ℕ = primary (h .link) f in
-    headers (h .link) (read count-place head) (read replay-place head) (word-of (h .width) (read (pointer-at (h .width)) (zone-head (h .link) f)))
+    headers (h .link) (count-in (h .link .edition) head) (read replay-place head) (word-of (h .width) (read (pointer-at (h .width)) (zone-head (h .link) f)))
 
 -- a frame that is not refused is these and its zone, sent
 pub shape-again : (h : Shape) (f : List ℕ) → Linked (h .link) → h .width ≤ 16 → AllOctets f → first (shape-rows h f) ≡ 0

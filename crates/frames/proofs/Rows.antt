@@ -10,7 +10,8 @@ use Rattle.octets.specs.Basics.{pick, Row, row, first}
 use Rattle.words.specs.Fields.{read}
 use Rattle.octets.proofs.Choices.{and-true, none-holds}
 use Rattle.trailer.specs.Trailer.{wrong}
-use Rattle.frames.specs.Link.{primary, zone-head, header-rows, version-place, spacecraft-place, channel-place, spare-place}
+use Rattle.frames.specs.Edition.{signals}
+use Rattle.frames.specs.Link.{primary, zone-head, header-rows, version-place, spacecraft-place, channel-place}
 use Rattle.frames.specs.Shape.{shape-length, spare-above, pointer-at, shape-unused, outer-rows, shape-rows}
 use Rattle.frames.specs.declared.Link.{Link}
 use Rattle.frames.specs.declared.shape.Shape.{Shape}
@@ -26,7 +27,7 @@ pub record SoundHeader (l : Link) (head zone-spare : ℕ) (unused : Bool) : Type
   pub version-right : read version-place head ≡ 1
   pub spacecraft-right : read spacecraft-place head ≡ l .spacecraft
   pub channel-right : read channel-place head ≡ l .channel
-  pub spare-clear : read spare-place head ≡ 0
+  pub signal-right : signals (l .edition) head ≡ true
   pub zone-spare-clear : zone-spare ≡ 0
   pub pointer-used : unused ≡ false
 
@@ -44,7 +45,7 @@ sound-header l head zone-spare unused e =
       version-right = eqb-true _ _ (not-false _ (v .0));
       spacecraft-right = eqb-true _ _ (channels .0);
       channel-right = eqb-true _ _ (channels .1);
-      spare-clear = eqb-true _ _ (spares .0);
+      signal-right = spares .0;
       zone-spare-clear = eqb-true _ _ (spares .1);
       pointer-used = p .0;
     }
@@ -53,7 +54,7 @@ sound-header l head zone-spare unused e =
 pub header-taken : (l : Link) (head spare : ℕ) (unused : Bool) → SoundHeader l head spare unused → first (header-rows l head spare unused) ≡ 0
 unfolding first header-rows
 header-taken l head spare unused h =
-    rw (eq-eqb _ _ (h .version-right), eq-eqb _ _ (h .spacecraft-right), eq-eqb _ _ (h .channel-right), eq-eqb _ _ (h .spare-clear), eq-eqb _ _ (h .zone-spare-clear), h .pointer-used) refl
+    rw (eq-eqb _ _ (h .version-right), eq-eqb _ _ (h .spacecraft-right), eq-eqb _ _ (h .channel-right), h .signal-right, eq-eqb _ _ (h .zone-spare-clear), h .pointer-used) refl
 
 -- the fields of the zone's header, over the shape
 abbrev pub SoundFields : Shape → ℕ → ℕ → Type 0

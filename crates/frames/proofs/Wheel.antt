@@ -5,12 +5,12 @@ use mathlib.Core.Path.{_≡_, refl, sym, ap, _∙_}
 use Prim.Native.Nat.{ℕ, _+_, _-_, _*_, _/_, _%_, _^_, _≤_, _<_}
 use native.Mathlib.Nat.{add-comm, mod-add-mod, mod-lt, mod-eq-of-lt, mod-self, zero-mod, div-add-mod', add-mul-mod-self-right, add-mul}
 use native.Mathlib.Omega.{arith}
-use lib.Pow.{pow-pos, pow-mono, mod-mod-pow}
+use lib.Pow.{pow-pos, pow-mono, pow-lt, mod-mod-pow}
 use Rattle.octets.proofs.Choices.{split}
-use Rattle.words.specs.Fields.{read}
-use Rattle.words.proofs.Fields.{field-lt}
-use Rattle.frames.specs.Link.{count-place, count-width, next-count, missing}
+use Rattle.frames.specs.Edition.{count-in}
+use Rattle.frames.specs.Link.{count-width, next-count, missing}
 use Rattle.frames.specs.declared.Link.{Link}
+use Rattle.frames.proofs.Signals.{cycle-narrow, count-in-lt}
 
 -- on a wheel of m places, r before c and one past `last`
 turned : (m last c r : ℕ) → 0 < m → (r + 1 + last) % m ≡ c % m → r % m ≡ (c + m - (last % m + 1)) % m
@@ -79,6 +79,25 @@ follows-another width c wide small e =
     (λ h. omega (arith, mod-eq-of-lt h))
 
 -- a count that is read is on the wheel
-pub count-lt : (l : Link) (word : ℕ) → read count-place word < 2 ^ count-width l
+pub count-lt : (l : Link) (word : ℕ) → count-in (l .edition) word < 2 ^ count-width l
 unfolding count-width
-count-lt l word = field-lt word 8 24
+count-lt l word = count-in-lt (l .edition) word
+
+-- a wheel goes round within a word of 32 bits, and has more than one place
+pub count-narrow : (l : Link) → count-width l < 32
+unfolding count-width
+count-narrow l = omega (arith, cycle-narrow (l .edition))
+
+pub wheel-in-word : (l : Link) → 2 ^ count-width l < 2 ^ 32
+wheel-in-word l = pow-lt (count-narrow l)
+
+pub count-wide : (l : Link) → 1 ≤ count-width l
+unfolding count-width
+count-wide l = omega arith
+
+-- a sum that wraps at a word's width wraps at the wheel's
+pub next-wraps : (bits width c : ℕ) → width ≤ bits → (c + 1) % 2 ^ bits % 2 ^ width ≡ next-count width c
+unfolding next-count
+next-wraps bits width c h =
+    let e : bits ≡ bits - width + width = omega arith in
+    ap (λ (k : ℕ). (c + 1) % 2 ^ k % 2 ^ width) e ∙ mod-mod-pow (c + 1) (bits - width) width

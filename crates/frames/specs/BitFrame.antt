@@ -6,7 +6,8 @@ use lib.Dec.{leb}
 use Rattle.octets.specs.Basics.{and, Row, row}
 use Rattle.words.specs.Fields.{read}
 use Rattle.words.specs.declared.Place.{Place}
-use Rattle.frames.specs.Link.{link-in-range, primary, zone-head, count-place, replay-place}
+use Rattle.frames.specs.Edition.{replay-place, count-in}
+use Rattle.frames.specs.Link.{link-in-range, primary, zone-head}
 use Rattle.frames.specs.Shape.{shape-length, shape-zone, pointer-at, spare-above, shape-unused, shape-rows, shape-heading, word-of, shape-head, shape-head-rows}
 use Rattle.frames.specs.declared.bits.BitSettings.{BitSettings}
 use Rattle.frames.specs.declared.Heading.{Heading}
@@ -50,7 +51,7 @@ unfoldable pub bit-zone-of : BitSettings → List ℕ → List ℕ
 bit-zone-of s f = shape-zone (bits-shape s) f
 
 abbrev pub bit-count : BitSettings → List ℕ → ℕ
-bit-count s f = read count-place (primary (s .link) f)
+bit-count s f = count-in (s .link .edition) (primary (s .link) f)
 
 abbrev pub bit-replay : BitSettings → List ℕ → ℕ
 bit-replay s f = read replay-place (primary (s .link) f)

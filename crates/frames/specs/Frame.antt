@@ -6,7 +6,8 @@ use lib.Dec.{leb}
 use Rattle.octets.specs.Basics.{and, Row, row}
 use Rattle.words.specs.Fields.{read}
 use Rattle.words.specs.declared.Place.{Place}
-use Rattle.frames.specs.Link.{link-in-range, primary, zone-head, version-place, spacecraft-place, channel-place, count-place, replay-place, spare-place}
+use Rattle.frames.specs.Edition.{replay-place, count-in, signals}
+use Rattle.frames.specs.Link.{link-in-range, primary, zone-head, version-place, spacecraft-place, channel-place}
 use Rattle.frames.specs.Shape.{shape-length, shape-zone, pointer-at, spare-above, shape-unused, shape-rows, shape-heading, word-of, shape-head, shape-head-rows}
 unfoldable pub use Rattle.frames.specs.Shape.{no-heading, heading-of}
 use Rattle.frames.specs.declared.Settings.{Settings}
@@ -59,11 +60,12 @@ spacecraft s f = read spacecraft-place (primary (s .link) f)
 abbrev pub channel : Settings → List ℕ → ℕ
 channel s f = read channel-place (primary (s .link) f)
 
-abbrev pub spare : Settings → List ℕ → ℕ
-spare s f = read spare-place (primary (s .link) f)
+-- whether the bits below the replay flag are as the channel's edition has them
+abbrev pub signalled : Settings → List ℕ → Bool
+signalled s f = signals (s .link .edition) (primary (s .link) f)
 
 abbrev pub count : Settings → List ℕ → ℕ
-count s f = read count-place (primary (s .link) f)
+count s f = count-in (s .link .edition) (primary (s .link) f)
 
 abbrev pub replay : Settings → List ℕ → ℕ
 replay s f = read replay-place (primary (s .link) f)

@@ -1,7 +1,9 @@
+pub mod Edition
 pub mod Link
 pub mod Shape
 pub mod Frame
 pub mod BitFrame
 pub mod Statements
+pub mod Editions
 pub mod Worth
 pub mod Passes

@@ -9,13 +9,14 @@ use Rattle.octets.specs.Basics.{and, number, octets, Row, row}
 use Rattle.words.specs.Fields.{read, write}
 use Rattle.words.specs.declared.Place.{Place}
 use Rattle.trailer.specs.Trailer.{extra, wrong}
+use Rattle.frames.specs.Edition.{own-width, count-place, cycle-width, signals, signalling}
 use Rattle.frames.specs.declared.Link.{Link}
 
 -- spacecraft 0 to 255, channel 0 to 62
 unfoldable pub link-in-range : Link → Bool
 link-in-range l = and (leb (l .spacecraft) 255) (leb (l .channel) 62)
 
--- the fields of the frame's own header, six octets from the most significant bit
+-- the fields of the frame's own header, six octets from the most significant bit; behind these the count and the signalling octet
 abbrev pub version-place : Place
 version-place = record { below = 46; width = 2 }
 
@@ -24,15 +25,6 @@ spacecraft-place = record { below = 38; width = 8 }
 
 abbrev pub channel-place : Place
 channel-place = record { below = 32; width = 6 }
-
-abbrev pub count-place : Place
-count-place = record { below = 8; width = 24 }
-
-abbrev pub replay-place : Place
-replay-place = record { below = 7; width = 1 }
-
-abbrev pub spare-place : Place
-spare-place = record { below = 0; width = 7 }
 
 -- the zone begins after the frame's own header and the zone's
 abbrev pub zone-at : Link → ℕ
@@ -58,13 +50,13 @@ unfoldable pub header-rows : Link → ℕ → ℕ → Bool → List Row
 header-rows l head zone-spare unused =
     row 4 (not (eqb (read version-place head) 1))
     ∷ row 5 (not (and (eqb (read spacecraft-place head) (l .spacecraft)) (eqb (read channel-place head) (l .channel))))
-    ∷ row 6 (not (and (eqb (read spare-place head) 0) (eqb zone-spare 0)))
+    ∷ row 6 (not (and (signals (l .edition) head) (eqb zone-spare 0)))
     ∷ row 7 unused
     ∷ []
 
 -- the width of the count
 unfoldable pub count-width : Link → ℕ
-count-width l = 24
+count-width l = own-width + cycle-width (l .edition)
 
 -- what headers to be written are refused for: the settings, the count or the pointer; no room
 unfoldable pub written-rows : Link → Bool → ℕ → Bool → List ℕ → List Row
@@ -77,7 +69,8 @@ written-rows l settled c pointed buffer =
 unfoldable pub head-word : Link → ℕ → ℕ → ℕ
 head-word l c r =
     write version-place 1
-    (write spacecraft-place (l .spacecraft) (write channel-place (l .channel) (write count-place c (write replay-place r 0))))
+    (write spacecraft-place (l .spacecraft)
+    (write channel-place (l .channel) (write count-place c (signalling (l .edition) c r))))
 
 -- both headers as they are written: the frame's own, and the zone's with this number
 unfoldable pub headers : Link → ℕ → ℕ → ℕ → List ℕ

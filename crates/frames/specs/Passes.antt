@@ -6,12 +6,13 @@ use Prim.Native.Nat.{ℕ}
 use Rattle.octets.specs.Basics.{first}
 use Rattle.frames.specs.Frame.{frame-rows}
 use Rattle.frames.specs.BitFrame.{bit-frame-rows}
+use Rattle.frames.specs.declared.Edition.the-variants.{Former}
 use Rattle.frames.specs.declared.Settings.{Settings}
 use Rattle.frames.specs.declared.bits.BitSettings.{BitSettings}
 
 -- Z = 10, M = 1,024
 abbrev pub channel-3 : Settings
-channel-3 = record { link = record { spacecraft = 66; channel = 3; trailed = false }; zone = 10; limit = 1024; fill = 0x55 }
+channel-3 = record { link = record { spacecraft = 66; channel = 3; trailed = false; edition = Former }; zone = 10; limit = 1024; fill = 0x55 }
 
 -- the sample's second frame with another pointer
 abbrev pub pointing : ℕ → List ℕ
@@ -25,7 +26,7 @@ pub record Pass5 : Type 0 where
 
 -- W = 1
 abbrev pub one-octet : BitSettings
-one-octet = record { link = record { spacecraft = 66; channel = 3; trailed = false }; width = 1; fill = 0x55 }
+one-octet = record { link = record { spacecraft = 66; channel = 3; trailed = false; edition = Former }; width = 1; fill = 0x55 }
 
 -- a frame of one octet with these two octets before the zone
 abbrev pub bits-pointing : ℕ → ℕ → List ℕ

@@ -8,7 +8,8 @@ use lib.Dec.{leb, ltb, eqb}
 use Rattle.octets.specs.Basics.{pick, and, Row, row, first}
 use Rattle.words.specs.Fields.{read, write}
 use Rattle.words.specs.declared.Place.{Place}
-use Rattle.frames.specs.Link.{zone-at, around, trailer-row, primary, zone-head, count-place, replay-place, header-rows, written-rows, headers}
+use Rattle.frames.specs.Edition.{replay-place, count-in}
+use Rattle.frames.specs.Link.{zone-at, around, trailer-row, primary, zone-head, header-rows, written-rows, headers}
 use Rattle.frames.specs.declared.Link.{Link}
 use Rattle.frames.specs.declared.Heading.{Heading}
 use Rattle.frames.specs.declared.shape.Shape.{Shape}
@@ -62,7 +63,7 @@ heading-of refusal c r p =
 -- the same by the numbers of both headers
 abbrev pub heading-by : Shape → ℕ → ℕ → ℕ → Heading
 heading-by h refusal head zone =
-    heading-of refusal (read count-place head) (read replay-place head) (read (pointer-at (h .width)) zone)
+    heading-of refusal (count-in (h .link .edition) head) (read replay-place head) (read (pointer-at (h .width)) zone)
 
 -- what the header of a frame says, where none of these rows refuses it
 abbrev pub shape-heading : Shape → List Row → List ℕ → Heading

@@ -8,21 +8,23 @@ use Rattle.octets.specs.Basics.{AllOctets, first}
 use Rattle.words.specs.Fields.{read}
 use Rattle.words.specs.declared.Place.{Place}
 use Rattle.trailer.specs.Trailer.{sent}
-use Rattle.frames.specs.Link.{zone-at, primary, zone-head, version-place, spacecraft-place, channel-place, count-place, replay-place, spare-place, count-width, headers}
+use Rattle.frames.specs.Edition.{replay-place, count-in, signals}
+use Rattle.frames.specs.Link.{zone-at, primary, zone-head, version-place, spacecraft-place, channel-place, count-width, headers}
 use Rattle.frames.specs.Frame.{in-range, frame-rows, zone-of, count, replay, zone-spare-place, pointer-place, pointer, pointer-word, head}
 use Rattle.frames.specs.BitFrame.{bits-in-range, bit-frame-rows, bit-zone-of, bit-count, bit-replay, bit-spare-place, bit-pointer-place, bit-pointer, bit-pointer-word, bit-head}
 use Rattle.frames.specs.declared.Link.{Link}
 use Rattle.frames.specs.declared.Settings.{Settings}
 use Rattle.frames.specs.declared.bits.BitSettings.{BitSettings}
 
--- headers that were written with this count and pointer, read back field by field: the replay flag and all spare bits are 0
+-- headers that were written with this count and pointer, read back field by field: the replay flag and all spare bits are 0, and the
+-- usage is the channel's
 pub record HeadersBack (l : Link) (zone-spare-at pointer-at : Place) (c p : ℕ) (f : List ℕ) : Type 0 where
   pub version-back : read version-place (primary l f) ≡ 1
   pub spacecraft-back : read spacecraft-place (primary l f) ≡ l .spacecraft
   pub channel-back : read channel-place (primary l f) ≡ l .channel
-  pub count-back : read count-place (primary l f) ≡ c
+  pub count-back : count-in (l .edition) (primary l f) ≡ c
   pub replay-back : read replay-place (primary l f) ≡ 0
-  pub spare-back : read spare-place (primary l f) ≡ 0
+  pub signal-back : signals (l .edition) (primary l f) ≡ true
   pub zone-spare-back : read zone-spare-at (zone-head l f) ≡ 0
   pub pointer-back : read pointer-at (zone-head l f) ≡ p
 

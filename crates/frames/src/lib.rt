@@ -1,8 +1,9 @@
 // Frames: the settings of a channel, a frame's header read and written, and the wheel of its count.
 ghost use mathlib.Core.Path.{_≡_};
+ghost use Prim.Native.Nat.{_^_};
 ghost use lib.Dec.{ltb, eqb};
 ghost use Rattle.octets.specs.Basics.{pick, first, over};
-ghost use Rattle.frames.specs.Link.{link-in-range, missing};
+ghost use Rattle.frames.specs.Link.{link-in-range, count-width, next-count, missing};
 ghost use Rattle.frames.specs.Frame.{in-range, frame-length, packet-shape, heading, head, head-rows};
 use octets::limits;
 use octets::refusals;
@@ -10,12 +11,24 @@ use shape::Shape;
 
 pub mod bits;
 mod shape;
+mod signal;
 
-// The spacecraft and the channel that every frame of a link names, and whether each ends with a trailer.
+// The edition of the frame header that a link follows, which says what stands below the replay flag.
+pub enum Edition {
+    // CCSDS 701.0-B-2: seven spare bits.
+    Former,
+    // CCSDS 732.0-B-3 with usage 0: a cycle that is not used, and 0.
+    CycleUnused,
+    // CCSDS 732.0-B-3 with usage 1: a cycle that stands above the count.
+    CycleUsed,
+}
+
+// The spacecraft and the channel that every frame of a link names, whether each ends with a trailer, and the edition of its header.
 pub struct Link {
     pub spacecraft: u32,
     pub channel: u32,
     pub trailed: bool,
+    pub edition: Edition,
 }
 
 // The settings of one packet channel: Z, M and the octet that fills what no packet takes.
@@ -41,9 +54,6 @@ pub const NO_START: usize = 2047;
 
 // The zone begins after the frame's own header and the zone's.
 pub const ZONE_AT: usize = 8;
-
-// So many counts are on the wheel.
-pub const WHEEL: u32 = 16777216;
 
 // A judged run has so many frames at most.
 pub const MOST_FRAMES: u32 = 16777216;
@@ -124,10 +134,24 @@ pub fn write_head(s: Settings, count: u32, pointer: u16, buf: &mut [u8]) -> u8
     shape::write_head(shape_of(s), count, pointer, buf)
 }
 
-// How many frames are missing between the counts `last` and c.
-pub fn missing(c: u32, last: u32) -> u32
-    ensures { λ r. ⌜ r ≡ missing 24 last c ⌝ }
+// So many counts are on the wheel of a link.
+pub fn wheel_of(l: Link) -> u32
+    ensures { λ r. ⌜ r ≡ 2 ^ count-width l ⌝ }
+{
+    1 << signal::count_width(l)
+}
+
+// The count after this one, round the wheel.
+pub fn next_count(l: Link, count: u32) -> u32
+    ensures { λ r. ⌜ r ≡ next-count (count-width l) count ⌝ }
+{
+    std::num::wrapping_add_u32(count, 1) % wheel_of(l)
+}
+
+// How many frames are missing between the counts `last` and c, round the wheel.
+pub fn missing(l: Link, last: u32, c: u32) -> u32
+    ensures { λ r. ⌜ r ≡ missing (count-width l) last c ⌝ }
 {
     let since = std::num::wrapping_sub_u32(c, last);
-    std::num::wrapping_sub_u32(since, 1) % WHEEL
+    std::num::wrapping_sub_u32(since, 1) % wheel_of(l)
 }

@@ -9,8 +9,10 @@ ghost use Rattle.frames.specs.Shape.{octets-of, pointer-at, shape-unused
 ghost use Rattle.frames.specs.declared.Link.{Link};
 use super::Heading;
 use super::Link;
-use super::WHEEL;
 use super::ZONE_AT;
+use super::signal;
+use super::signal::COUNT;
+use super::signal::REPLAY;
 use octets::refusals;
 use words::Place;
 
@@ -38,15 +40,6 @@ const CHANNEL: Place = Place {
     below: 32,
     width: 6,
 };
-
-const COUNT: Place = Place {
-    below: 8,
-    width: 24,
-};
-
-const REPLAY: Place = Place { below: 7, width: 1 };
-
-const SPARE: Place = Place { below: 0, width: 7 };
 
 // How many octets a frame has around its zone.
 fn around(l: Link) -> usize
@@ -110,7 +103,7 @@ fn header_refusal(h: Shape, head: u64, zone: u16) -> u8
     if !channel {
         return refusals::CHANNEL;
     }
-    let clear = (words::field(head, SPARE) == 0) & fits(h, zone as u64);
+    let clear = signal::is_right(h.link, head) & fits(h, zone as u64);
     let unused = is_unused(h, words::field(zone as u64, pointer_at(h)));
     if !clear {
         return refusals::SPARE;
@@ -143,7 +136,7 @@ fn heading(h: Shape, head: u64, zone: u16) -> Heading
     }
     Heading {
         refusal: 0,
-        count: words::field(head, COUNT) as u32,
+        count: signal::count_in(h.link, head),
         replay: words::field(head, REPLAY) as u8,
         pointer: words::field(zone as u64, pointer_at(h)) as u16,
     }
@@ -174,8 +167,8 @@ pub(crate) fn read_headers(h: Shape, frame: &[u8]) -> Heading
 fn head_word(l: Link, count: u32, replay: u8) -> u64
     ensures { λ r. ⌜ r ≡ head-word l count replay ⌝ }
 {
-    let flag = words::placed(0, REPLAY, replay as u64);
-    let counted = words::placed(flag, COUNT, count as u64);
+    let signalling = signal::written(l, count, replay);
+    let counted = words::placed(signalling, COUNT, count as u64);
     let channel = words::placed(counted, CHANNEL, l.channel as u64);
     let craft = words::placed(channel, SPACECRAFT, l.spacecraft as u64);
     words::placed(craft, VERSION, 1)
@@ -188,7 +181,7 @@ pub(crate) fn write_head(h: Shape, count: u32, pointer: u16, buf: &mut [u8]) -> 
     ensures { λ r. ⌜ now (buf .exit) ≡ pick (eqb r 0) (over (now (buf .entry)) 0 (shape-head h count pointer)) (now (buf .entry)) ⌝ }
 {
     let pointed = fits(h, pointer as u64) & !is_unused(h, pointer as u64);
-    if !((count < WHEEL) & pointed) {
+    if !((count < super::wheel_of(h.link)) & pointed) {
         return refusals::SETTING;
     }
     if buf.len() < ZONE_AT {

@@ -8,9 +8,9 @@ use Rattle.frames.proofs.shape.head_word.Tie as tie
 returns : tie.Need-returns
 unfolding head-word
 returns c =
-    let at-placed3 = c .before .before .before in
-    let at-placed2 = at-placed3 .before .before in
-    rw (c .placed5 .ensures, c .before .placed4 .ensures, at-placed3 .placed3 .ensures, at-placed2 .placed2 .ensures, at-placed2 .before .placed .ensures)
+    let at-channel = c .before .before .before in
+    let at-count = at-channel .before .before in
+    rw (c .placed4 .ensures, c .before .placed3 .ensures, at-channel .placed2 .ensures, at-count .placed .ensures, at-count .before .written .ensures)
 
 pub head-word-spec : {M : Type 1} → statement M
 head-word-spec =

@@ -8,7 +8,8 @@ use lib.Dec.{eqb}
 use Rattle.octets.specs.Basics.{and, first}
 use Rattle.words.specs.Fields.{read}
 use Rattle.words.specs.declared.Place.{Place}
-use Rattle.frames.specs.Link.{version-place, spacecraft-place, channel-place, spare-place, header-rows}
+use Rattle.frames.specs.Edition.{signals}
+use Rattle.frames.specs.Link.{version-place, spacecraft-place, channel-place, header-rows}
 use Rattle.frames.specs.Shape.{spare-above, pointer-at, shape-unused}
 use Rattle.frames.proofs.Headings.{spare-fits}
 use Rattle.frames.proofs.shape.header_refusal.Statement.{statement}
@@ -41,41 +42,41 @@ module _ (c : tie.After-is-unused) where
   abbrev at-pointer : tie.After-pointer-at
   at-pointer = c .before .before
 
-  abbrev at-spare : tie.After-field4
-  at-spare = at-pointer .before .before
+  abbrev at-signal : tie.After-is-right
+  at-signal = at-pointer .before .before
 
   abbrev tested : tie.After-struct-known2
-  tested = at-spare .before .before
+  tested = at-signal .before .before
 
   abbrev its : tie.Start
   its = start tested
 
-  clear : and (eqb (read spare-place (its .args .head)) 0) (eqb (read (spare-above (its .args .h .width)) (its .args .zone)) 0)
-      ≡ and (eqb (at-spare .field4 .result) 0) (at-pointer .before .fits2 .result)
-  clear = rw (spare-fits (its .args .zone) (its .args .h .width) (its .fits .zone .fits), ← at-spare .field4 .ensures, ← at-pointer .before .fits2 .ensures) refl
+  clear : and (signals (its .args .h .link .edition) (its .args .head)) (eqb (read (spare-above (its .args .h .width)) (its .args .zone)) 0)
+      ≡ and (at-signal .is-right .result) (at-pointer .before .fits2 .result)
+  clear = rw (spare-fits (its .args .zone) (its .args .h .width) (its .fits .zone .fits), ← at-signal .is-right .ensures, ← at-pointer .before .fits2 .ensures) refl
 
   used : shape-unused (its .args .h) (read (pointer-at (its .args .h .width)) (its .args .zone)) ≡ c .is-unused .result
   used =
       sym (c .is-unused .ensures
-      ∙ ap (shape-unused (its .args .h)) (c .before .field5 .ensures ∙ ap (λ (at : Place). read at (its .args .zone)) (at-pointer .pointer-at .ensures)))
+      ∙ ap (shape-unused (its .args .h)) (c .before .field4 .ensures ∙ ap (λ (at : Place). read at (its .args .zone)) (at-pointer .pointer-at .ensures)))
 
 returns-3 : tie.Need-returns-3
 unfolding first header-rows
 returns-3 c =
     let at = c .before in
-    rw (version (at-version (tested at)), channel (tested at), at-spare at .before .if2 .left, clear at, c .if3 .taken) refl
+    rw (version (at-version (tested at)), channel (tested at), at-signal at .before .if2 .left, clear at, c .if3 .taken) refl
 
 returns-4 : tie.Need-returns-4
 unfolding first header-rows
 returns-4 c =
     let at = c .before .before in
-    rw (version (at-version (tested at)), channel (tested at), at-spare at .before .if2 .left, clear at, c .before .if3 .left, used at, c .if4 .taken) refl
+    rw (version (at-version (tested at)), channel (tested at), at-signal at .before .if2 .left, clear at, c .before .if3 .left, used at, c .if4 .taken) refl
 
 returns-5 : tie.Need-returns-5
 unfolding first header-rows
 returns-5 c =
     let at = c .before .before in
-    rw (version (at-version (tested at)), channel (tested at), at-spare at .before .if2 .left, clear at, c .before .if3 .left, used at, c .if4 .left) refl
+    rw (version (at-version (tested at)), channel (tested at), at-signal at .before .if2 .left, clear at, c .before .if3 .left, used at, c .if4 .left) refl
 
 pub header-refusal-spec : {M : Type 1} → statement M
 header-refusal-spec =

@@ -12,22 +12,19 @@ returns : tie.Need-returns
 unfolding heading-of
 returns c = rw (c .refused .ensures, ← c .before .before .header-refusal .ensures, ne-eqb _ _ (c .before .if1 .taken)) refl
 
-cast-t8 : tie.Need-cast-t8
-cast-t8 c = record { fits = omega (arith, c .field .ensures, field-lt (c .before .before .before .args .head) 8 24) }
+cast-replay : tie.Need-cast-t9
+cast-replay c = record { fits = omega (arith, c .field .ensures, field-lt (c .before .before .before .before .args .head) 7 1) }
 
-cast-t11 : tie.Need-cast-t11
-cast-t11 c = record { fits = omega (arith, c .field2 .ensures, field-lt (c .before .before .before .before .args .head) 7 1) }
-
-cast-t15 : tie.Need-cast-t15
-cast-t15 c =
+cast-pointer : tie.Need-cast-t13
+cast-pointer c =
     let start = c .before .before .before .before .before .before in
-    record { fits = omega (arith, c .field3 .ensures, field-le (start .args .zone) (c .before .pointer-at .result .below) (c .before .pointer-at .result .width), start .fits .zone) }
+    record { fits = omega (arith, c .field2 .ensures, field-le (start .args .zone) (c .before .pointer-at .result .below) (c .before .pointer-at .result .width), start .fits .zone) }
 
 returns-2 : tie.Need-returns-2
 unfolding heading-of
 returns-2 c =
-    let at-field = c .before .before .before in
-    rw (c .field3 .ensures, c .before .pointer-at .ensures, c .before .before .field2 .ensures, at-field .field .ensures, ← at-field .before .before .header-refusal .ensures, eq-eqb _ _ (at-field .before .if1 .left)) refl
+    let at-count = c .before .before .before in
+    rw (c .field2 .ensures, c .before .pointer-at .ensures, c .before .before .field .ensures, at-count .count-in .ensures, ← at-count .before .before .header-refusal .ensures, eq-eqb _ _ (at-count .before .if1 .left)) refl
 
 pub heading-spec : {M : Type 1} → statement M
 heading-spec =
@@ -37,10 +34,9 @@ heading-spec =
     (λ c κs. tt)
     returns
     (λ c κs. tt)
-    cast-t8
     (λ c κs. tt)
-    cast-t11
+    cast-replay
     (λ c κs. tt)
     (λ c κs. tt)
-    cast-t15
+    cast-pointer
     returns-2)

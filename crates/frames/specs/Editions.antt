@@ -1,0 +1,49 @@
+-- What is shown of the editions of the header: both headers octet by octet, and that 732.0-B-3 with usage 0 has the very octets of 701.0-B-2.
+use Prim.Native.Nat.{ℕ, _+_, _*_, _/_, _%_, _^_, _<_}
+use mathlib.Core.Path.{_≡_}
+use mathlib.Core.List.{List, [], _∷_}
+use mathlib.Core.Bool.{true}
+use Rattle.octets.specs.Basics.{Row}
+use Rattle.frames.specs.Edition.{usage}
+use Rattle.frames.specs.Link.{link-in-range, count-width, headers}
+use Rattle.frames.specs.Frame.{heading, head, head-rows}
+use Rattle.frames.specs.BitFrame.{bit-heading, bit-head, bit-head-rows}
+use Rattle.frames.specs.declared.Edition.{Edition}
+use Rattle.frames.specs.declared.Edition.the-variants.{Former, CycleUnused}
+use Rattle.frames.specs.declared.Link.{Link}
+use Rattle.frames.specs.declared.Settings.{Settings}
+use Rattle.frames.specs.declared.bits.BitSettings.{BitSettings}
+
+-- the same settings at another edition
+abbrev pub link-by : Edition → Link → Link
+link-by e l = record { spacecraft = l .spacecraft; channel = l .channel; trailed = l .trailed; edition = e }
+
+abbrev pub settings-by : Edition → Settings → Settings
+settings-by e s = record { link = link-by e (s .link); zone = s .zone; limit = s .limit; fill = s .fill }
+
+abbrev pub bit-settings-by : Edition → BitSettings → BitSettings
+bit-settings-by e s = record { link = link-by e (s .link); width = s .width; fill = s .fill }
+
+-- Both headers with this count, replay flag and number of the zone's header. The signalling octet has the replay flag, the usage flag, two spare bits,
+-- and what the count has above the three octets before it.
+pub record AsOctets : Type 0 where
+  pub written : (l : Link) (c r z : ℕ) → link-in-range l ≡ true → c < 2 ^ count-width l → r < 2 → z < 65536
+      → headers l c r z
+      ≡ (64 + l .spacecraft / 4) ∷ (l .spacecraft % 4 * 64 + l .channel)
+      ∷ (c / 65536 % 256) ∷ (c / 256 % 256) ∷ (c % 256) ∷ (r * 128 + usage (l .edition) * 64 + c / 16777216)
+      ∷ (z / 256) ∷ (z % 256) ∷ []
+
+-- Every header is read, refused and written alike, and the wheel is the same.
+pub record SameOctets : Type 0 where
+  pub wheel : (l : Link) → count-width (link-by CycleUnused l) ≡ count-width (link-by Former l)
+  pub read : (s : Settings) (f : List ℕ) → heading (settings-by CycleUnused s) f ≡ heading (settings-by Former s) f
+  pub written : (s : Settings) (c p : ℕ) → head (settings-by CycleUnused s) c p ≡ head (settings-by Former s) c p
+  pub unwritten : (s : Settings) (c p : ℕ) (buffer : List ℕ) → head-rows (settings-by CycleUnused s) c p buffer ≡ head-rows (settings-by Former s) c p buffer
+  pub bits-read : (s : BitSettings) (f : List ℕ) → bit-heading (bit-settings-by CycleUnused s) f ≡ bit-heading (bit-settings-by Former s) f
+  pub bits-written : (s : BitSettings) (c p : ℕ) → bit-head (bit-settings-by CycleUnused s) c p ≡ bit-head (bit-settings-by Former s) c p
+  pub bits-unwritten : (s : BitSettings) (c p : ℕ) (buffer : List ℕ)
+      → bit-head-rows (bit-settings-by CycleUnused s) c p buffer ≡ bit-head-rows (bit-settings-by Former s) c p buffer
+
+pub record Editions : Type 0 where
+  pub as-octets : AsOctets
+  pub same-octets : SameOctets
