@@ -4,13 +4,14 @@ use mathlib.Core.Path.{refl}
 use Rattle.octets.specs.Basics.{octets}
 use Rattle.words.specs.Fields.{join, placed}
 use Rattle.trailer.specs.Trailer.{sent}
+use Rattle.frames.specs.Edition.{usage, cycle-width, signalling}
 use Rattle.frames.specs.Link.{head-word, headers}
 use Rattle.frames.specs.BitFrame.{bit-head}
 use Rattle.bitstream.specs.Bitstream.{octets-for, pointer-for, valid-bits, mixed, last-octet, zone-with, frame-with}
 use Rattle.bitstream.specs.Passes.{Pass13}
 
 pub pass-13 : Pass13
-unfolding sent frame-with bit-head headers head-word octets placed join zone-with last-octet mixed octets-for pointer-for valid-bits
+unfolding sent frame-with bit-head headers usage cycle-width signalling head-word octets placed join zone-with last-octet mixed octets-for pointer-for valid-bits
 pass-13 = record {
   seven = refl;
   eight = refl;

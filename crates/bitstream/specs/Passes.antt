@@ -3,12 +3,13 @@
 use mathlib.Core.Bool.{false}
 use mathlib.Core.Path.{_≡_}
 use mathlib.Core.List.{[], _∷_}
+use Rattle.frames.specs.declared.Edition.the-variants.{Former}
 use Rattle.frames.specs.declared.bits.BitSettings.{BitSettings}
 use Rattle.bitstream.specs.Bitstream.{pointer-for, valid-bits, frame-with}
 
 -- W = 1, filled with 55
 abbrev one-octet : BitSettings
-one-octet = record { link = record { spacecraft = 66; channel = 3; trailed = false }; width = 1; fill = 85 }
+one-octet = record { link = record { spacecraft = 66; channel = 3; trailed = false; edition = Former }; width = 1; fill = 85 }
 
 pub record Pass13 : Type 0 where
   pub seven : pointer-for one-octet 7 ≡ 6

@@ -2,10 +2,9 @@
 ghost use mathlib.Core.Path.{_≡_};
 ghost use Prim.Native.Nat.{_≤_};
 ghost use Rattle.octets.specs.Basics.{first, over};
-ghost use Rattle.frames.specs.Link.{zone-at, next-count};
+ghost use Rattle.frames.specs.Link.{zone-at};
 ghost use Rattle.frames.specs.BitFrame.{most-width};
 ghost use Rattle.bitstream.specs.Bitstream.{octets-for, pointer-for, valid-bits, mixed, zone-with, begun, writer-reachable, write-rows, wrote, written, reader-reachable, untold, no-reading, reading, leading-octets, Fits};
-use frames::WHEEL;
 use frames::ZONE_AT;
 use frames::bits::ALL_VALID;
 use frames::bits::BitSettings;
@@ -47,13 +46,6 @@ pub fn begin() -> Writer
     ensures { λ r. ⌜ r ≡ begun ⌝ }
 {
     Writer { count: 0 }
-}
-
-// The count after this one, round the wheel.
-fn next_count(count: u32) -> u32
-    ensures { λ r. ⌜ r ≡ next-count 24 count ⌝ }
-{
-    std::num::wrapping_add_u32(count, 1) % WHEEL
 }
 
 // The octets that hold n bits.
@@ -107,7 +99,7 @@ fn lay_bits(s: BitSettings, bits: &[u8], n: usize, frame: &mut [u8])
 fn writer_reachable(s: BitSettings, w: Writer) -> bool
     ensures { λ r. ⌜ r ≡ writer-reachable s w ⌝ }
 {
-    w.count < WHEEL
+    w.count < frames::wheel_of(s.link)
 }
 
 fn write_refusal(s: BitSettings, w: Writer, n: usize, lent: usize, room: usize) -> u8
@@ -140,7 +132,7 @@ pub fn write(s: BitSettings, w: Writer, bits: &[u8], n: usize, frame: &mut [u8])
     Written {
         refusal: 0,
         writer: Writer {
-            count: next_count(w.count),
+            count: frames::next_count(s.link, w.count),
         },
     }
 }
@@ -150,7 +142,7 @@ fn reader_reachable(s: BitSettings, x: Reader) -> bool
 {
     match x {
         Reader::Fresh => true,
-        Reader::Last { count, .. } => count < WHEEL,
+        Reader::Last { count, .. } => count < frames::wheel_of(s.link),
     }
 }
 
@@ -163,7 +155,7 @@ fn untold(s: BitSettings, x: Reader, count: u32) -> bool
         Reader::Last {
             count: last,
             waiting,
-        } => (count != next_count(last)) | waiting,
+        } => (count != frames::next_count(s.link, last)) | waiting,
     }
 }
 

@@ -51,7 +51,7 @@ module _ {s : Settings} {m : Mux} {start n : ℕ} {d : List ℕ} (taken : ℕ) w
   pub counted-full : {r : ℕ} {f g : List ℕ} → Fills s m start n d → m .filled + n ≡ s .zone → r ≡ first (head-rows s (m .count) start d)
       → f ≡ pick (eqb r 0) (over d 0 (head s (m .count) start)) d → g ≡ ended (s .link .trailed) f (zone-at (s .link) + s .zone)
       → Counted s m start n taken (record { count = next-count (count-width (s .link)) (m .count); filled = 0; first = no-start; taken = taken }) d g
-  unfolding filled-mux filled-frame count-width frame-length
+  unfolding filled-mux filled-frame frame-length
   counted-full {r} {f} {g} w q t v u =
       let z : r ≡ 0 = t ∙ none-refused s (m .count) start d (w .settled) (w .counted) (w .pointed) (w .used) (omega (arith, w .room)) in
       record {

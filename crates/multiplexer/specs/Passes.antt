@@ -5,13 +5,14 @@ use mathlib.Core.Path.{_≡_}
 use mathlib.Core.List.{List, [], _∷_}
 use lib.ListN.{drop, replicate}
 use Rattle.frames.specs.Frame.{frame-length, zone-of}
+use Rattle.frames.specs.declared.Edition.the-variants.{Former}
 use Rattle.frames.specs.declared.Settings.{Settings}
 use Rattle.multiplexer.specs.Multiplex.{flush}
 use Rattle.multiplexer.specs.declared.Mux.{Mux}
 
 -- a channel with zones of 300 octets and the fill octet 55
 unfoldable pub sample : Settings
-sample = record { link = record { spacecraft = 66; channel = 3; trailed = false }; zone = 300; limit = 1024; fill = 0x55 }
+sample = record { link = record { spacecraft = 66; channel = 3; trailed = false; edition = Former }; zone = 300; limit = 1024; fill = 0x55 }
 
 -- the end of the zone that a flush leaves, from the r octets that were left
 unfoldable pub flushed : ℕ → List ℕ

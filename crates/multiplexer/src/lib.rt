@@ -11,7 +11,6 @@ ghost use Rattle.multiplexer.specs.Laying.{Fills, Counted, PacketLaid};
 use frames::IDLE_ZONE;
 use frames::NO_START;
 use frames::Settings;
-use frames::WHEEL;
 use frames::ZONE_AT;
 use octets::refusals;
 use packets::damage;
@@ -52,7 +51,7 @@ pub fn begin() -> Mux
 fn mux_reachable(s: Settings, m: Mux) -> bool
     ensures { λ r. ⌜ r ≡ mux-reachable s m ⌝ }
 {
-    let counted = m.count < WHEEL;
+    let counted = m.count < frames::wheel_of(s.link);
     if m.taken == 0 {
         return counted & ((m.filled < s.zone) & ((m.first == NO_START) | (m.first < m.filled)));
     }
@@ -145,7 +144,7 @@ fn count_in(s: Settings, m: Mux, start: usize, n: usize, taken: usize, frame: &m
         frames::write_head(s, m.count, start as u16, frame);
         trailer::end_frame(s.link.trailed, frame, ZONE_AT + s.zone);
         return Mux {
-            count: (m.count + 1) % WHEEL,
+            count: frames::next_count(s.link, m.count),
             filled: 0,
             first: NO_START,
             taken,

@@ -1,7 +1,6 @@
 -- `bitstream::untold` meets its contract: in each case the test is the definition's.
 -- Assumes nothing.
 use borrow.Author.Needs.{needs}
-use Rattle.frames.specs.Link.{count-width}
 use Rattle.bitstream.specs.Bitstream.{untold}
 use Rattle.bitstream.proofs.untold.Statement.{statement}
 use Rattle.bitstream.proofs.untold.Tie as tie
@@ -11,7 +10,7 @@ unfolding untold
 returns c = rw (c .enum-told .given .1)
 
 returns-2 : tie.Need-returns-2
-unfolding untold count-width
+unfolding untold
 returns-2 c = rw (c .next-count .ensures, c .before .before .x .given .1)
 
 pub untold-spec : {M : Type 1} → statement M

@@ -5,7 +5,6 @@ use native.Mathlib.Omega.{arith}
 use lib.ListN.{length}
 use borrow.Author.Needs.{needs}
 use Rattle.octets.specs.Basics.{first}
-use Rattle.frames.specs.Link.{count-width}
 use Rattle.frames.proofs.bits.Settled.{bits-settled}
 use Rattle.bitstream.specs.Bitstream.{write-rows}
 use Rattle.bitstream.proofs.Answers.{write-refused}
@@ -54,7 +53,6 @@ add-end-frame c =
     record { fits = omega (arith, bits-settled (start at .args .s) (given at .in-range) .width-most) }
 
 returns-2 : tie.Need-returns-2
-unfolding count-width
 returns-2 c =
     let at-end = c .before .before .before in
     let at-lay = at-end .before .before .before .before .before in

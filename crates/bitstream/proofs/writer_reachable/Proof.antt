@@ -1,14 +1,14 @@
 -- `bitstream::writer_reachable` meets its contract: the test is the definition's.
 -- Assumes nothing.
 use mathlib.Core.Path.{refl}
-use Rattle.frames.specs.Link.{count-width}
+use borrow.Author.Needs.{needs}
 use Rattle.bitstream.specs.Bitstream.{writer-reachable}
 use Rattle.bitstream.proofs.writer_reachable.Statement.{statement}
 use Rattle.bitstream.proofs.writer_reachable.Tie as tie
 
 returns : tie.Need-returns
-unfolding writer-reachable count-width
-returns c = refl
+unfolding writer-reachable
+returns c = rw (c .before .wheel-of .ensures) refl
 
 pub writer-reachable-spec : {M : Type 1} → statement M
-writer-reachable-spec = tie.close (tie.spec returns)
+writer-reachable-spec = tie.close (tie.spec (λ c κs. search needs) returns)

@@ -1,7 +1,6 @@
 -- `multiplexer::count_in` meets its contract: its test is the definition's.
 -- Assumes nothing.
 use native.Mathlib.Omega.{arith}
-use Rattle.frames.specs.Link.{count-width, next-count}
 use Rattle.frames.proofs.Settled.{settled}
 use Rattle.multiplexer.proofs.Laying.{counted-more, counted-full}
 use borrow.Author.Needs.{needs}
@@ -13,21 +12,15 @@ add-end c =
     let at-start = c .before .before .before .before .before .before .before .before .before .before in
     record { fits = omega (arith, settled (at-start .args .s) (at-start .pre .settled) .zone-most) }
 
-add-count : tie.Need-add-t17
-unfolding count-width
-add-count c =
-    let at-start = c .before .before .before .before .before .before .before .before .before .before .before .before .before .before in
-    record { fits = omega (arith, at-start .pre .counted) }
-
 returns : tie.Need-returns
-unfolding count-width next-count
 returns c =
     let at-end = c .before .before .before in
     let at-head = at-end .before .before .before .before .before in
     let at-if1 = at-head .before .before in
     let at-start = at-if1 .before .before .before .before in
-    counted-full (at-start .args .taken) (at-start .pre) (at-if1 .if1 .taken) (at-head .write-head .ensures .0) (at-head .write-head .ensures .1)
-    (at-end .end-frame .ensures)
+    rw (c .next-count .ensures)
+    (counted-full (at-start .args .taken) (at-start .pre) (at-if1 .if1 .taken) (at-head .write-head .ensures .0) (at-head .write-head .ensures .1)
+    (at-end .end-frame .ensures))
 
 returns-2 : tie.Need-returns-2
 returns-2 c =
@@ -43,7 +36,7 @@ count-in-spec =
     (λ c κs. search needs)
     add-end
     (λ c κs. search needs)
-    add-count
+    (λ c κs. search needs)
     (λ c. search needs)
     returns
     (λ c. search needs)
