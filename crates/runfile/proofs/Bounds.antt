@@ -12,9 +12,12 @@ use Rattle.octets.proofs.Choices.{and-true}
 use Rattle.trailer.specs.Trailer.{extra}
 use Rattle.frames.specs.Link.{zone-at}
 use Rattle.frames.specs.Frame.{frame-length, most-frames}
+use Rattle.frames.specs.Edition.{is-former}
+use Rattle.frames.specs.declared.Edition.{Edition}
+use Rattle.frames.specs.declared.Edition.the-variants.{Former, CycleUnused, CycleUsed}
 use Rattle.frames.specs.declared.Settings.{Settings}
 use Rattle.frames.proofs.Settled.{Settled, settled}
-use Rattle.runfile.specs.RunFile.{setup-of, fits}
+use Rattle.runfile.specs.RunFile.{setup-of, plain, fits}
 use Rattle.runfile.specs.Steps.{reachable, body-length}
 use Rattle.runfile.specs.declared.Progress.{Progress}
 use Rattle.runfile.specs.declared.Progress.the-variants.{Start, Running, Ended, Bad}
@@ -23,13 +26,25 @@ pub record Fitting (s : Settings) : Type 0 where
   pub in-numbers : Settled s
   pub limit-here : s .limit ≤ 4096
   pub no-trailer : s .link .trailed ≡ false
+  pub former : s .link .edition ≡ Former
 
 pub fitting : (s : Settings) → fits s ≡ true → Fitting s
-unfolding fits
+unfolding fits plain
 fitting s e =
     let a = and-true _ _ e in
     let b = and-true _ _ (a .1) in
-    record { in-numbers = settled s (a .0); limit-here = leb-true _ _ (b .0); no-trailer = not-true _ (b .1) }
+    let c = and-true _ _ (b .1) in
+    record {
+      in-numbers = settled s (a .0);
+      limit-here = leb-true _ _ (b .0);
+      no-trailer = not-true _ (c .1);
+      former = is-former-only (s .link .edition) (c .0);
+    }
+  where
+    is-former-only : (d : Edition) → is-former d ≡ true → d ≡ Former
+    is-former-only Former t = refl
+    is-former-only CycleUnused t = cc
+    is-former-only CycleUsed t = cc
 
 -- no record has a longer body
 abbrev pub most-body : ℕ

@@ -15,8 +15,9 @@ use Rattle.octets.proofs.Choices.{and-true}
 use Rattle.octets.proofs.Fronts.{all-append, all-zeros, all-octets}
 use Rattle.frames.specs.Link.{link-in-range}
 use Rattle.frames.specs.Frame.{in-range, frame-length, most-frames}
+use Rattle.frames.specs.declared.Edition.the-variants.{Former}
 use Rattle.frames.specs.declared.Settings.{Settings}
-use Rattle.runfile.specs.RunFile.{setup-length, setup-of, fits, setup-octets}
+use Rattle.runfile.specs.RunFile.{setup-length, setup-of, plain, fits, setup-octets}
 use Rattle.runfile.specs.Steps.{next-record, reachable, body-length, taken, closed}
 use Rattle.runfile.specs.Statements.{Reached, begins, takes, closes, ReachesAll}
 use Rattle.runfile.specs.declared.Progress.{Progress}
@@ -120,10 +121,10 @@ module _ (s : Settings) (fit : fits s ≡ true) (clear : s .fill ≡ 0) where
 
 -- the least zone and the least limit
 abbrev least : Settings
-least = record { link = record { spacecraft = 0; channel = 0; trailed = false }; zone = 1; limit = 7; fill = 0 }
+least = record { link = record { spacecraft = 0; channel = 0; trailed = false; edition = Former }; zone = 1; limit = 7; fill = 0 }
 
 least-fits : fits least ≡ true
-unfolding fits in-range link-in-range
+unfolding fits plain in-range link-in-range
 least-fits = refl
 
 reached-bad : (n : ℕ) → n ≤ most-frames + 2 → Reached (Bad n)

@@ -1,6 +1,6 @@
 -- The run file of settings and frames says these and nothing else, and a file that is a run is the run file of what it says.
 -- Assumes nothing.
-use mathlib.Core.Path.{_≡_, refl, sym, ap, ap₂, subst, _∙_}
+use mathlib.Core.Path.{_≡_, refl, sym, ap, subst, _∙_}
 use mathlib.Core.List.{List, [], _∷_, _++_}
 use mathlib.Core.Bool.{Bool, true, false}
 use mathlib.Core.Option.{Option, none, some}
@@ -14,6 +14,8 @@ use Rattle.octets.specs.Basics.{and, All, AllOctets, octets, number-at}
 use Rattle.octets.proofs.Choices.{and-true}
 use Rattle.octets.proofs.Numbers.{number-octets, number-within, octets-again}
 use Rattle.frames.specs.Frame.{frame-length, most-frames}
+use Rattle.frames.specs.declared.Edition.{Edition}
+use Rattle.frames.specs.declared.Edition.the-variants.{Former}
 use Rattle.frames.specs.declared.Settings.{Settings}
 use Rattle.runfile.specs.RunFile.{setup-length, setup-of, fits, Reading, stop, with-setup, with-frame, body, beyond, records, stands, ending, nothing-after, reading, Recorded, setup-octets, frame-octets, run-file, Run, whole}
 use Rattle.runfile.proofs.Bounds.{fitting}
@@ -28,12 +30,17 @@ setup-back s fit clear =
       number-octets 2 (s .zone) (omega (arith, b .in-numbers .zone-most)),
       number-octets 3 (s .limit) (omega (arith, b .limit-here)),
     )
-    (ap₂ (λ (on : Bool) (octet : ℕ). record {
-      link = record { spacecraft = s .link .spacecraft; channel = s .link .channel; trailed = on };
+    (ap (λ (on : Bool). with-rest on Former 0) (sym (b .no-trailer))
+    ∙ ap (λ (e : Edition). with-rest (s .link .trailed) e 0) (sym (b .former))
+    ∙ ap (with-rest (s .link .trailed) (s .link .edition)) (sym clear))
+  where
+    with-rest : Bool → Edition → ℕ → Settings
+    with-rest on e octet = record {
+      link = record { spacecraft = s .link .spacecraft; channel = s .link .channel; trailed = on; edition = e };
       zone = s .zone;
       limit = s .limit;
       fill = octet;
-    }) (sym (b .no-trailer)) (sym clear))
+    }
 
 abbrev said : List (List ℕ) → Reading
 said fs = record { setup = none; frames = fs; bad = none }

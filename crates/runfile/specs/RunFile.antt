@@ -9,6 +9,9 @@ use lib.ListN.{length, take, drop, getD}
 use lib.Dec.{leb, eqb}
 use Rattle.octets.specs.Basics.{pick, and, All, octets, number-at}
 use Rattle.frames.specs.Frame.{in-range, frame-length, most-frames}
+use Rattle.frames.specs.Edition.{is-former}
+use Rattle.frames.specs.declared.Edition.the-variants.{Former}
+use Rattle.frames.specs.declared.Link.{Link}
 use Rattle.frames.specs.declared.Settings.{Settings}
 
 -- a setup has so many octets of body
@@ -19,15 +22,19 @@ setup-length = 7
 unfoldable pub setup-of : List ℕ → Settings
 setup-of body =
     record {
-      link = record { spacecraft = getD body 0 0; channel = getD body 1 0; trailed = false };
+      link = record { spacecraft = getD body 0 0; channel = getD body 1 0; trailed = false; edition = Former };
       zone = number-at 2 2 body;
       limit = number-at 3 4 body;
       fill = 0;
     }
 
--- within the numbers, M here at most 4,096, and no trailer, of which a setup says nothing
+-- what a setup says nothing of is as it was before there were settings for it: no trailer, and the header of 701.0-B-2
+unfoldable pub plain : Link → Bool
+plain l = and (is-former (l .edition)) (not (l .trailed))
+
+-- within the numbers, and M here at most 4,096
 unfoldable pub fits : Settings → Bool
-fits s = and (in-range s) (and (leb (s .limit) 4096) (not (s .link .trailed)))
+fits s = and (in-range s) (and (leb (s .limit) 4096) (plain (s .link)))
 
 -- what a run file says: the settings where its setup is good, the frames before its first bad record, and that record's number, from
 -- 0, where there is one

@@ -2,8 +2,9 @@
 ghost use mathlib.Core.Path.{_≡_};
 ghost use mathlib.Core.Bool.{true};
 ghost use Rattle.frames.specs.Frame.{frame-length};
-ghost use Rattle.runfile.specs.RunFile.{setup-of, fits};
+ghost use Rattle.runfile.specs.RunFile.{setup-of, plain, fits};
 ghost use Rattle.runfile.specs.Steps.{next-record, bad, reachable, body-length, taken, closed};
+use frames::Edition;
 use frames::Link;
 use frames::MOST_FRAMES;
 use frames::Settings;
@@ -41,6 +42,7 @@ fn setup_of(body: &[u8]) -> Settings
         spacecraft: octets::octet(body, 0) as u32,
         channel: octets::octet(body, 1) as u32,
         trailed: false,
+        edition: Edition::Former,
     };
     Settings {
         link,
@@ -50,10 +52,22 @@ fn setup_of(body: &[u8]) -> Settings
     }
 }
 
+// Whether a link has nothing of which a setup cannot speak.
+fn is_plain(l: Link) -> bool
+    ensures { λ r. ⌜ r ≡ plain l ⌝ }
+{
+    let edition = l.edition;
+    match edition {
+        Edition::Former => !l.trailed,
+        Edition::CycleUnused => false,
+        Edition::CycleUsed => false,
+    }
+}
+
 fn fits(s: Settings) -> bool
     ensures { λ r. ⌜ r ≡ fits s ⌝ }
 {
-    frames::in_range(s) & ((s.limit <= MOST_LIMIT) & !s.link.trailed)
+    frames::in_range(s) & ((s.limit <= MOST_LIMIT) & is_plain(s.link))
 }
 
 // The number of the record that comes next, or of the one that was bad.
