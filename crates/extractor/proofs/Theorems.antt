@@ -14,6 +14,7 @@ use Rattle.octets.proofs.Choices.{apart}
 use Rattle.octets.proofs.Tests.{test}
 use Rattle.packets.specs.Packet.{look, encapsulation, header-length, counted, sized}
 use Rattle.frames.specs.Frame.{in-range}
+use Rattle.frames.specs.Edition.{usage, cycle-width}
 use Rattle.frames.specs.Link.{link-in-range, count-width}
 use Rattle.frames.specs.declared.Settings.{Settings}
 use Rattle.extractor.specs.Records.{unfinished, holds-well, reachable, step-rows, step, step-call}
@@ -87,7 +88,7 @@ pub reaches-all : ReachesAll
 reaches-all s x store (ok, room) small = reached-exactly s x store ok room small
 
 pub exceptions : Exceptions
-unfolding number-from number field part look encapsulation header-length counted sized in-range link-in-range count-width unfinished holds-well reachable room-to-state encapsulation-goes-on can-go-on held-goes-on
+unfolding number-from number field part look encapsulation header-length counted sized in-range link-in-range usage cycle-width count-width unfinished holds-well reachable room-to-state encapsulation-goes-on can-go-on held-goes-on
 exceptions = record {
   by-test = λ s x store fit small. reached-by-test s x store (fit .0) (fit .1) small;
   passes = refl;

@@ -7,6 +7,7 @@ use Prim.Native.Nat.{suc, ℕ, _≤_}
 use lib.ListN.{length, drop}
 use Rattle.octets.specs.Basics.{and, All, AllOctets, first}
 use Rattle.frames.specs.Frame.{in-range, frame-length}
+use Rattle.frames.specs.declared.Edition.the-variants.{Former}
 use Rattle.frames.specs.declared.Settings.{Settings}
 use Rattle.extractor.specs.Extract.{fresh, told}
 use Rattle.extractor.specs.Records.{reachable, is-entered, stands-for, enter-rows, step-rows, step-call}
@@ -21,7 +22,7 @@ use Rattle.extractor.specs.declared.Spending.{Spending}
 
 -- the least zone and the least limit
 abbrev pub tight : Settings
-tight = record { link = record { spacecraft = 0; channel = 0; trailed = false }; zone = 1; limit = 7; fill = 0 }
+tight = record { link = record { spacecraft = 0; channel = 0; trailed = false; edition = Former }; zone = 1; limit = 7; fill = 0 }
 
 -- seven octets of a header of eight
 abbrev pub seven-held : List ℕ

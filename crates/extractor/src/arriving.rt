@@ -38,7 +38,7 @@ fn lost_since(s: Settings, x: Extractor, count: u32) -> u32
 {
     match x {
         Extractor::Fresh => 0,
-        _ => frames::missing(count, last_in(x)),
+        _ => frames::missing(s.link, last_in(x), count),
     }
 }
 

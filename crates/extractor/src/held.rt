@@ -13,7 +13,6 @@ ghost use Rattle.extractor.specs.Records.{unfinished, reachable, is-ente
 ghost use Rattle.extractor.specs.Walks.{last-in, at-in, reached, at-hand, Says};
 use crate::Extractor;
 use frames::Settings;
-use frames::WHEEL;
 use octets::refusals;
 use packets::Seen;
 use packets::damage;
@@ -102,15 +101,15 @@ pub(crate) fn stated(s: Settings, x: Extractor, store: &[u8]) -> Seen
     packets::read_length(s.limit, &store[..held])
 }
 
-// Whether the rules can reach a record with these numbers, whose octets held say this, for a zone.
-fn reachable(zone: usize, last: u32, held: usize, at: usize, stated: Seen) -> bool
-    ensures { λ r. ⌜ ((s : Settings) (store : List ℕ) → zone ≡ s .zone → Says s store held stated → r ≡ reached s store last held at) ⌝ }
+// Whether the rules can reach a record with these numbers, whose octets held say this.
+fn reachable(s: Settings, last: u32, held: usize, at: usize, stated: Seen) -> bool
+    ensures { λ r. ⌜ ((store : List ℕ) → Says s store held stated → r ≡ reached s store last held at) ⌝ }
 {
-    if WHEEL <= last {
+    if frames::wheel_of(s.link) <= last {
         return false;
     }
     if held == 0 {
-        return at <= zone;
+        return at <= s.zone;
     }
     (at == 0) & unfinished(held, stated)
 }
@@ -122,7 +121,7 @@ pub(crate) fn refusal(s: Settings, x: Extractor, stated: Seen, room: usize) -> u
     if room < s.limit {
         return refusals::ROOM;
     }
-    if !reachable(s.zone, last_in(x), held_in(x), at_in(x), stated) {
+    if !reachable(s, last_in(x), held_in(x), at_in(x), stated) {
         return refusals::RECORD;
     }
     0

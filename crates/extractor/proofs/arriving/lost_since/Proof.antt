@@ -38,12 +38,12 @@ unfolding lost-since
 returns c = rw (c .enum-told .given .1) refl
 
 returns-2 : tie.Need-returns-2
-unfolding lost-since count-width
+unfolding lost-since
 returns-2 c =
     let at-match = c .before .before in
     let a = at-match .before .args in
     c .missing .ensures
-    ∙ ap (λ (last : ℕ). missing 24 last (a .count)) (c .before .last-in .ensures)
+    ∙ ap (λ (last : ℕ). missing (count-width (a .s .link)) last (a .count)) (c .before .last-in .ensures)
     ∙ ap (λ (last : Option ℕ). lost-since (a .s) last (a .count)) (counted (a .x) (at-match .match .keys2))
 
 pub lost-since-spec : {M : Type 1} → statement M

@@ -22,7 +22,7 @@ its-test c store says =
     let a = start c .args in
     let says′ = subst (λ (h : ℕ). Says (a .s) store h (a .stated)) (sym (c .before .before .held-in .ensures)) says in
     reached-by (a .s) store (a .x) (c .before .before .before .last-in .ensures) (c .before .before .held-in .ensures) (c .before .at-in .ensures)
-    (c .reachable .ensures (a .s) store refl says′)
+    (c .reachable .ensures store says′)
 
 returns : tie.Need-returns
 unfolding first
