@@ -11,7 +11,8 @@ use native.Mathlib.Omega.{arith}
 use lib.ListN.{length, take, drop, replicate, length-append, length-drop, length-replicate}
 use lib.Seq.{length-take-le, take-add, drop-drop}
 use lib.Dec.{leb, eqb}
-use borrow.Author.Tests.{leb-true, leb-false, le-leb, ltb-true, eqb-true, eqb-false, ne-eqb}
+use lib.Pow.{pow-pos}
+use borrow.Author.Tests.{leb-true, leb-false, le-leb, lt-ltb, ltb-true, eqb-true, eqb-false, ne-eqb}
 use Rattle.octets.specs.Basics.{AllOctets, first}
 use Rattle.words.specs.Fields.{field}
 use Rattle.octets.proofs.Choices.{and-true}
@@ -234,11 +235,11 @@ module _ (s : Settings) (store : List ℕ) (ok : in-range s ≡ true) (room : s 
   tried-empty n st = rw (ne-eqb 0 (s .zone + around (s .link)) (omega arith))
 
   led-fault : (n : ℕ) → n < most-frames → Led (faults-at n)
-  unfolding judge-frame count-width unfinished look
+  unfolding judge-frame unfinished look
   led-fault zero few = led-by Open [] tt few (tried-empty 0 opened) begins
   led-fault (suc n) few =
       led-by (Sound (suc n) 0 0) [] tt few (tried-empty (suc n) (stands-for store (InStep 0 0)))
-      (led-sound (suc n) (omega arith) (omega arith) 0 0 refl (omega arith) (omega arith) refl)
+      (led-sound (suc n) (omega arith) (omega arith) 0 0 (lt-ltb 0 (2 ^ count-width (s .link)) (pow-pos (count-width (s .link)))) (omega arith) (omega arith) refl)
 
   led-faulty : (n at : ℕ) → at < n → n ≤ most-frames → Led (Faulty n at)
   unfolding judge-frame

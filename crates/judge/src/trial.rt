@@ -63,7 +63,7 @@ fn ready_for(s: Settings, frame: &[u8]) -> Extractor
 {
     let heading = frames::read_head(s, frame);
     Extractor::InStep {
-        last: frames::missing(heading.count, 0),
+        last: frames::missing(s.link, 0, heading.count),
         held: 0,
     }
 }
