@@ -10,7 +10,7 @@ use lib.ListN.{length}
 use borrow.Author.Tests.{eq-eqb}
 use Rattle.octets.specs.Basics.{first}
 use Rattle.frames.specs.Link.{primary, header-rows, count-width, next-count}
-use Rattle.frames.specs.Frame.{packet-shape, frame-length, version, spacecraft, channel, count, spare, zone-spare, pointer, unused, frame-rows}
+use Rattle.frames.specs.Frame.{packet-shape, frame-length, version, spacecraft, channel, count, zone-spare, pointer, unused, frame-rows}
 use Rattle.frames.specs.declared.Settings.{Settings}
 use Rattle.frames.proofs.Framed.{Used}
 use Rattle.frames.proofs.Rows.{sound-frame}
@@ -26,7 +26,7 @@ unfolding Bears frame-rows frame-length
 rows-bear s f e =
     let r = sound-frame (packet-shape s) f e in
     let h = r .header in
-    (r .length-right, r .trailer-right, h .version-right, h .spacecraft-right, h .channel-right, h .spare-clear, h .zone-spare-clear)
+    (r .length-right, r .trailer-right, h .version-right, h .spacecraft-right, h .channel-right, h .signal-right, h .zone-spare-clear)
 
 -- and back, where the pointer is one that is used
 pub bears-rows : (s : Settings) (f : List ℕ) → Bears s f → Used s (pointer s f) → first (frame-rows s f) ≡ 0
@@ -38,7 +38,7 @@ bears-rows s f (e₁, right, e₂, e₃, e₄, e₅, e₆) used =
       eq-eqb (version s f) 1 e₂,
       eq-eqb (spacecraft s f) (s .link .spacecraft) e₃,
       eq-eqb (channel s f) (s .link .channel) e₄,
-      eq-eqb (spare s f) 0 e₅,
+      e₅,
       eq-eqb (zone-spare s f) 0 e₆,
       used,
     )

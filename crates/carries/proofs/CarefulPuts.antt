@@ -216,7 +216,7 @@ module _ (s : Settings) (e : in-range s ≡ true) (range : Settled s) (lend : �
     frame-right : x .mux .filled + size-now ≡ s .zone
         → Framed s (x .mux .count) (first-start (s .zone) (at .base) (starts 0 ws)) (take (s .zone) (drop (at .base) (end-to-end ws)))
         (take (frame-length s) (next-frame s lend x p))
-    unfolding framed frame-length count-width
+    unfolding framed frame-length
     frame-right full =
         let c : ℕ = x .mux .count in
         let start : ℕ = first-start (s .zone) (at .base) (starts 0 ws) in

@@ -124,7 +124,7 @@ module _ (s : Settings) (e : in-range s ≡ true) (range : Settled s) (lend : �
     idle-cases = rw (eq-eqb (x .mux .filled + s .zone) (s .zone) (omega (arith, flushed .empty))) refl
 
     idle-framed : Framed s (x .mux .count) idle-zone zone-now frame-now
-    unfolding framed count-width
+    unfolding framed
     idle-framed =
         let long : length zone-now ≡ s .zone = length-replicate (s .zone) (s .fill) in
         let written : frame-now ≡ framed s (x .mux .count) idle-zone zone-now =

@@ -6,6 +6,7 @@ use Rattle.words.specs.Fields.{field}
 use Rattle.packets.specs.Packet.{look, space, encapsulation, counted, sized, header-length, is-idle}
 use Rattle.trailer.specs.Division.{bits, all-bits, moved, step, divided, remainder}
 use Rattle.trailer.specs.Trailer.{extra, right, wrong}
+use Rattle.frames.specs.Edition.{usage, cycle-width, count-in, used-as, signals}
 use Rattle.frames.specs.Link.{primary, zone-head, header-rows, count-width, next-count, missing}
 use Rattle.frames.specs.Frame.{frame-length, unused, frame-rows, zone-of}
 use Rattle.extractor.specs.Extract.{take-in, step-of, reason-of, lost-since, reason-in, reason-by, agreed, agreed-look, walked, walk, walk-turns, walk-look}
@@ -14,7 +15,7 @@ use Rattle.carries.specs.Carries.{starts, first-start, LaidFrom, Bears, 
 use Rattle.carries.specs.Weaker.{Weaker}
 
 pub weaker : Weaker
-unfolding bits all-bits moved step divided remainder right number-at extra wrong number-from number field part first look space encapsulation counted sized header-length is-idle primary zone-head header-rows count-width next-count missing frame-length unused frame-rows zone-of take-in step-of reason-of lost-since reason-in reason-by agreed agreed-look walked walk walk-turns walk-look is-fault faulty-entry faulty close judged verdict starts first-start LaidFrom Bears Rising
+unfolding bits all-bits moved step divided remainder right number-at extra wrong number-from number field part first look space encapsulation counted sized header-length is-idle primary zone-head usage cycle-width count-in used-as signals header-rows count-width next-count missing frame-length unused frame-rows zone-of take-in step-of reason-of lost-since reason-in reason-by agreed agreed-look walked walk walk-turns walk-look is-fault faulty-entry faulty close judged verdict starts first-start LaidFrom Bears Rising
 weaker =
     record {
       untrailed = record { bear = ((refl, refl, refl, refl, refl, refl, refl), tt); rises = tt; are-formed = (refl, tt); are-laid = (refl, refl, refl); verdict-is = refl };

@@ -3,14 +3,14 @@
 use Prim.Native.Nat.{ℕ, _+_, _-_}
 use mathlib.Core.Path.{_≡_}
 use mathlib.Core.List.{List, [], _∷_, _++_}
-use mathlib.Core.Bool.{false}
+use mathlib.Core.Bool.{true, false}
 use lib.ListN.{length, take, drop}
 use lib.Dec.{leb, ltb, eqb}
 use Rattle.octets.specs.Basics.{pick, and, All}
 use Rattle.packets.specs.Packet.{WellFormed, end-to-end}
 use Rattle.trailer.specs.Trailer.{wrong}
 use Rattle.frames.specs.Link.{count-width, next-count}
-use Rattle.frames.specs.Frame.{idle-zone, no-start, frame-length, version, spacecraft, channel, count, spare, zone-spare, pointer, zone-of}
+use Rattle.frames.specs.Frame.{idle-zone, no-start, frame-length, version, spacecraft, channel, count, signalled, zone-spare, pointer, zone-of}
 use Rattle.frames.specs.declared.Settings.{Settings}
 
 -- where each packet starts, the first at o
@@ -49,7 +49,7 @@ Bears s f =
     × (version s f ≡ 1)
     × (spacecraft s f ≡ s .link .spacecraft)
     × (channel s f ≡ s .link .channel)
-    × (spare s f ≡ 0)
+    × (signalled s f ≡ true)
     × (zone-spare s f ≡ 0)
 
 -- counts rise by one round the wheel

@@ -8,17 +8,18 @@ use lib.ListN.{take}
 use Rattle.octets.specs.Basics.{All}
 use Rattle.packets.specs.Packet.{WellFormed, end-to-end}
 use Rattle.frames.specs.Frame.{count, pointer, zone-of}
+use Rattle.frames.specs.declared.Edition.the-variants.{Former}
 use Rattle.frames.specs.declared.Settings.{Settings}
 use Rattle.judge.specs.Judge.{Verdict, pass, fault, verdict}
 use Rattle.carries.specs.Carries.{starts, first-start, Between, LaidFrom, Bears, Rising}
 
 -- Z = 2, M = 7
 abbrev pub small : Settings
-small = record { link = record { spacecraft = 66; channel = 3; trailed = false }; zone = 2; limit = 7; fill = 0x55 }
+small = record { link = record { spacecraft = 66; channel = 3; trailed = false; edition = Former }; zone = 2; limit = 7; fill = 0x55 }
 
 -- the same with trailers
 abbrev pub small-trailed : Settings
-small-trailed = record { link = record { spacecraft = 66; channel = 3; trailed = true }; zone = 2; limit = 7; fill = 0x55 }
+small-trailed = record { link = record { spacecraft = 66; channel = 3; trailed = true; edition = Former }; zone = 2; limit = 7; fill = 0x55 }
 
 -- a frame of the channel: its count, the two octets of its pointer, and the two of its zone
 abbrev pub framed : ℕ → ℕ → ℕ → ℕ → ℕ → List ℕ
