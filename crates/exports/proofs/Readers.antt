@@ -6,11 +6,12 @@ use mathlib.Core.Bool.{Bool, true, false}
 use Prim.Native.Nat.{ℕ, _≤_, _<_, _^_, min}
 use native.Mathlib.Omega.{arith}
 use lib.Dec.{leb, eqb}
-use borrow.Author.Tests.{ltb-true, leb-true, eqb-true, eqb-false}
+use borrow.Author.Tests.{le-ltb, ltb-true, leb-true, eqb-true, eqb-false}
 use Rattle.octets.specs.Basics.{and}
 use Rattle.octets.proofs.Choices.{and-true, apart}
 use Rattle.octets.proofs.Tests.{test}
 use Rattle.frames.specs.Link.{count-width}
+use Rattle.frames.proofs.Wheel.{wheel-in-word}
 use Rattle.frames.specs.declared.bits.BitSettings.{BitSettings}
 use Rattle.bitstream.specs.Bitstream.{reader-reachable}
 use Rattle.arrays.specs.Arrays.{bit}
@@ -34,12 +35,13 @@ module _ (s : BitSettings) (kind last waiting : ℕ) (rest : List ℕ) where
   fresh = and (eqb kind 0) (and (eqb (min last 4294967295) 0) (eqb waiting 0))
 
   read-exact : read ≡ true → reader-reachable s (reader-of numbers) ≡ true → reader-numbers (reader-of numbers) ≡ kind ∷ last ∷ waiting ∷ []
-  unfolding reader-with reader-reachable reader-numbers count-width
+  unfolding reader-with reader-reachable reader-numbers
   read-exact t passes =
       let both = and-true (eqb kind 1) (leb waiting 1) t in
       let one : kind ≡ 1 = eqb-true kind 1 (both .0) in
-      let on : min last 4294967295 < 2 ^ 24 = ltb-true (min last 4294967295) (2 ^ 24) (rw t at passes) in
-      let whole : min last 4294967295 ≡ last = omega arith in
+      let wheel : ℕ = 2 ^ count-width (s .link) in
+      let on : min last 4294967295 < wheel = ltb-true (min last 4294967295) wheel (rw t at passes) in
+      let whole : min last 4294967295 ≡ last = omega (arith, wheel-in-word (s .link)) in
       rw (t, whole, bit-back waiting (leb-true waiting 1 (both .1)), one) refl
 
   fresh-exact : read ≡ false → fresh ≡ true → reader-numbers (reader-of numbers) ≡ kind ∷ last ∷ waiting ∷ []
@@ -54,8 +56,8 @@ module _ (s : BitSettings) (kind last waiting : ℕ) (rest : List ℕ) where
       rw (t, u, none, no-last, calm) refl
 
   unread-refused : read ≡ false → fresh ≡ false → reader-reachable s (reader-of numbers) ≡ false
-  unfolding reader-with reader-reachable count-width
-  unread-refused t u = rw (t, u) refl
+  unfolding reader-with reader-reachable
+  unread-refused t u = rw (t, u) (le-ltb 4294967295 (2 ^ count-width (s .link)) (omega (arith, wheel-in-word (s .link))))
 
 pub readers-exact : ReadersExact
 readers-exact s kind last waiting rest passes =

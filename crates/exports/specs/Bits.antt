@@ -18,17 +18,17 @@ use Rattle.exports.specs.Channel.{link-of, zone-for}
 
 -- so many numbers state the settings
 abbrev pub bit-settings-numbers : ℕ
-bit-settings-numbers = 5
+bit-settings-numbers = 6
 
 -- whether an array is short: of settings, or of a record's or an answer's numbers
 unfoldable pub bits-short : ℕ → ℕ → ℕ → ℕ → ℕ → Bool
 bits-short settings numbers size answer room = or (ltb settings bit-settings-numbers) (or (ltb numbers size) (ltb answer room))
 
--- spacecraft, channel, W, the fill octet and the trailer
+-- spacecraft, channel, W, the fill octet, the trailer and the edition
 unfoldable pub bit-settings-of : List ℕ → BitSettings
 bit-settings-of ns = record {
-  link = link-of ns (getD ns 4 0);
-  width = zone-for (getD ns 2 0) (getD ns 3 0) (getD ns 4 0);
+  link = link-of ns (getD ns 4 0) (getD ns 5 0);
+  width = zone-for (getD ns 2 0) (getD ns 3 0) (getD ns 4 0) (getD ns 5 0);
   fill = octet-of (getD ns 3 0);
 }
 

@@ -26,7 +26,7 @@ use frames::ZONE_AT;
 use frames::bits::BitSettings;
 
 // The entries of the settings, of each record, and of the answer.
-const BIT_SETTINGS_ENTRIES: usize = 5;
+const BIT_SETTINGS_ENTRIES: usize = 6;
 
 const WRITER_ENTRIES: usize = 1;
 
@@ -46,10 +46,11 @@ fn bit_settings_of(numbers: &[u64]) -> BitSettings
 {
     let fill = entry(numbers, 3);
     let trailer = entry(numbers, 4);
-    let link = link_of(numbers, trailer);
+    let edition = entry(numbers, 5);
+    let link = link_of(numbers, trailer, edition);
     BitSettings {
         link,
-        width: zone_for(entry(numbers, 2), fill, trailer),
+        width: zone_for(entry(numbers, 2), fill, trailer, edition),
         fill: octet_of(fill),
     }
 }

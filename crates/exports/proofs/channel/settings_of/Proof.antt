@@ -11,12 +11,13 @@ returns c =
     let at-zone = c .before .before in
     let at-link = at-zone .before .before in
     rw
-    (c .octet-of .ensures, c .before .entry4 .ensures, at-zone .zone-for .ensures, at-zone .before .entry3 .ensures, at-link .link-of .ensures, at-link .before .entry2 .ensures, at-link .before .before .entry .ensures)
+    (c .octet-of .ensures, c .before .entry5 .ensures, at-zone .zone-for .ensures, at-zone .before .entry4 .ensures, at-link .link-of .ensures, at-link .before .entry3 .ensures, at-link .before .before .entry2 .ensures, at-link .before .before .before .entry .ensures)
 
 pub settings-of-spec : {M : Type 1} → statement M
 settings-of-spec =
     tie.close
     (tie.spec
+    (λ c κs. search needs)
     (λ c κs. search needs)
     (λ c κs. search needs)
     (λ c κs. search needs)
