@@ -16,6 +16,7 @@ use Rattle.space.specs.Space.{space-fields, space-word, space-in-range, space-r
 use Rattle.trailer.specs.Division.{all-bits, moved, divided, remainder}
 use Rattle.trailer.specs.Division as division
 use Rattle.trailer.specs.Trailer.{trailer, right, with-trailer, extra, sent, wrong, ended}
+use Rattle.frames.specs.Edition.{usage, cycle-width, count-in, used-as, signals, signalling}
 use Rattle.frames.specs.Link.{link-in-range, primary, zone-head, header-rows, written-rows, head-word, headers, count-width, next-count, missing}
 use Rattle.frames.specs.Frame.{in-range, frame-length, zone-of, unused, frame-rows, heading-rows, heading-of, heading, head, head-rows}
 use Rattle.frames.specs.BitFrame.{bits-in-range, bit-frame-length, bit-zone-of, bit-unused, bit-frame-rows, bit-heading-rows, bit-heading, bit-head, bit-head-rows}
@@ -30,11 +31,11 @@ use Rattle.judge.specs.Calls.{counts-well, judge-reachable, frame-refusals, clo
 use Rattle.bitstream.specs.Bitstream.{octets-for, pointer-for, valid-bits, mixed, last-octet, zone-with, writer-reachable, write-rows, frame-with, written, reader-reachable, read-rows, untold, loss-flag, next-reader, leading-octets}
 use Rattle.bitstream.specs.Bitstream as bits
 use Rattle.bitstream.specs.Statements.{run-read}
-use Rattle.runfile.specs.RunFile.{setup-of, fits, stop, with-setup, with-frame, stands, nothing-after, ending, records, setup-octets, frame-octets, run-file}
+use Rattle.runfile.specs.RunFile.{setup-of, plain, fits, stop, with-setup, with-frame, stands, nothing-after, ending, records, setup-octets, frame-octets, run-file}
 use Rattle.runfile.specs.RunFile as runfile
 use Rattle.runfile.specs.Steps.{next-record, body-length, taken, closed}
 use Rattle.runfile.specs.Steps as run
-use Rattle.exports.specs.Channel.{short, zone-for, link-of, settings-of}
+use Rattle.exports.specs.Channel.{short, edition-of, zone-for, link-of, settings-of}
 use Rattle.exports.specs.Packet.{kind-number, header-numbers, header-leaves, formed-numbers, formed-leaves, wrap-numbers, wrap-leaves, unwrap-numbers, unwrap-leaves, unit-numbers, unit-leaves}
 use Rattle.exports.specs.Spaces.{space-numbers, read-space-leaves, header-of, write-space-leaves}
 use Rattle.exports.specs.Mux.{mux-numbers, mux-of, begin-leaves, put-numbers, flush-numbers, mux-leaves}
@@ -57,7 +58,7 @@ unfolding packets all-bits moved division.bits division.step divided remainder t
 trailers = tt
 
 unfoldable pub frames : Unit {0}
-unfolding trailers link-in-range primary zone-head header-rows written-rows head-word headers count-width next-count missing in-range frame-length zone-of unused frame-rows heading-rows heading-of heading head head-rows bits-in-range bit-frame-length bit-zone-of bit-unused bit-frame-rows bit-heading-rows bit-heading bit-head bit-head-rows
+unfolding trailers usage cycle-width count-in used-as signals signalling link-in-range primary zone-head header-rows written-rows head-word headers count-width next-count missing in-range frame-length zone-of unused frame-rows heading-rows heading-of heading head head-rows bits-in-range bit-frame-length bit-zone-of bit-unused bit-frame-rows bit-heading-rows bit-heading bit-head bit-head-rows
 frames = tt
 
 unfoldable pub multiplexing : Unit {0}
@@ -77,9 +78,9 @@ unfolding frames octets-for pointer-for valid-bits mixed last-octet zone-with wr
 bitstreams = tt
 
 unfoldable pub run-files : Unit {0}
-unfolding frames setup-of fits stop with-setup with-frame stands nothing-after ending records setup-octets frame-octets run-file runfile.reading run.reachable next-record body-length taken closed
+unfolding frames setup-of plain fits stop with-setup with-frame stands nothing-after ending records setup-octets frame-octets run-file runfile.reading run.reachable next-record body-length taken closed
 run-files = tt
 
 unfoldable pub arrays : Unit {0}
-unfolding multiplexing judging bitstreams relays relaying.entries-of entry-of relaying.table-of entry-numbers table-numbers wide load-leaves route-numbers route-leaves short zone-for link-of settings-of kind-number header-numbers header-leaves formed-numbers formed-leaves wrap-numbers wrap-leaves unwrap-numbers unwrap-leaves unit-numbers unit-leaves space-numbers read-space-leaves header-of write-space-leaves mux-numbers mux-of begin-leaves put-numbers flush-numbers mux-leaves extractor-numbers extractor-with enter-numbers enter-leaves step-numbers step-leaves part-numbers show-numbers show-leaves judge-numbers judge-with judge-leaves close-numbers close-leaves bits-short bit-settings-of writer-of write-leaves reader-numbers reader-with read-numbers read-leaves
+unfolding multiplexing judging bitstreams relays relaying.entries-of entry-of relaying.table-of entry-numbers table-numbers wide load-leaves route-numbers route-leaves short edition-of zone-for link-of settings-of kind-number header-numbers header-leaves formed-numbers formed-leaves wrap-numbers wrap-leaves unwrap-numbers unwrap-leaves unit-numbers unit-leaves space-numbers read-space-leaves header-of write-space-leaves mux-numbers mux-of begin-leaves put-numbers flush-numbers mux-leaves extractor-numbers extractor-with enter-numbers enter-leaves step-numbers step-leaves part-numbers show-numbers show-leaves judge-numbers judge-with judge-leaves close-numbers close-leaves bits-short bit-settings-of writer-of write-leaves reader-numbers reader-with read-numbers read-leaves
 arrays = tt

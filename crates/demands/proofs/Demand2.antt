@@ -6,6 +6,7 @@ use Rattle.space.proofs.Spaces.{space-written-read, space-read-written}
 use Rattle.trailer.proofs.Printed.{as-printed, syndrome}
 use Rattle.trailer.proofs.Sharp.{sharp}
 use Rattle.frames.proofs.Theorems.{headers-read}
+use Rattle.frames.proofs.Editions.{editions}
 use Rattle.frames.proofs.Worth.{worth}
 use Rattle.bitstream.proofs.ReadBack.{read-back, has-bits}
 use Rattle.bitstream.proofs.Losses.{losses-wait}
@@ -21,6 +22,7 @@ pub demand-2 : Demand2
 demand-2 = record {
   fields = record { read = placed-read; below = placed-below; above = placed-above };
   headers-read = headers-read;
+  editions = editions;
   trailers = record { as-printed = as-printed; syndrome = syndrome; worth = worth; sharp = sharp };
   packets-read = record { wrapped = round-trip; space = space-written-read; space-again = space-read-written; space-same = same-header; damages = damages };
   bits-read = record { written-read = read-back; read-has = λ s x f o done. has-bits s x f o done; losses = losses-wait };

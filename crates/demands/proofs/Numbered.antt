@@ -21,6 +21,7 @@ use Rattle.demands.specs.Numbers.Judging as judging
 use Rattle.demands.specs.Numbers.Bits as bits
 use Rattle.demands.specs.Numbers.RunFiles as runs
 use Rattle.demands.specs.Numbers.Trailers as trailers
+use Rattle.demands.specs.Numbers.Editions as editions
 use Rattle.demands.specs.Numbers.Answers.{Cases, Together}
 use Rattle.demands.proofs.Computing as computing
 use Rattle.demands.proofs.NumbersInC.{in-c}
@@ -40,6 +41,8 @@ ranges = record {
   bit-tests = refl;
   trailers = λ s on. refl;
   bit-trailers = λ s on. refl;
+  editions = λ s e. refl;
+  bit-editions = λ s e. refl;
   limits = refl;
   formed = refl;
   protocols = refl;
@@ -330,6 +333,7 @@ unfolding computing.run-files
 run-files = record {
   setups = refl;
   no-trailer = refl;
+  no-edition = refl;
   bodies = refl;
   first = refl;
   frame = refl;
@@ -466,6 +470,56 @@ trailed = record {
   leading = refl;
 }
 
+edition-layouts : editions.Layouts
+unfolding computing.bitstreams
+edition-layouts = record {
+  widths = refl;
+  bit-widths = refl;
+  signals = refl;
+  bit-signals = refl;
+  cycles = refl;
+  bit-cycles = refl;
+  edges = refl;
+  written = refl;
+  bits-written = refl;
+  unused-written = refl;
+  greatest = refl;
+  bits-greatest = refl;
+  missing-before = refl;
+  next = refl;
+}
+
+edition-refusals : editions.Refusals
+unfolding computing.multiplexing computing.judging computing.bitstreams
+edition-refusals = record {
+  order = refl;
+  bit-order = refl;
+  entered = refl;
+  kept = refl;
+  judged = refl;
+  bits-read = refl;
+  multiplexer = refl;
+  extractor = refl;
+  judge = refl;
+  writer = refl;
+  reader = refl;
+  most-frames = refl;
+}
+
+edition-outcomes : editions.Outcomes
+unfolding computing.multiplexing computing.judging computing.bitstreams
+edition-outcomes = record {
+  put = refl;
+  flushed = refl;
+  idle = refl;
+  unused = refl;
+  entered = refl;
+  turned = refl;
+  judged = refl;
+  bits-written = refl;
+  bits-read = refl;
+}
+
 damaged-headers : damages.Headers
 unfolding computing.packets
 damaged-headers = record {
@@ -532,6 +586,7 @@ numbers = record {
     frame-written = frame-written;
     wheel = wheel;
     trailers = trailer-octets;
+    editions = edition-layouts;
     space-packets = space-packets;
     encapsulation-packets = encapsulation-packets;
     parts = parts;
@@ -551,6 +606,7 @@ numbers = record {
     write-idle = write-idle;
     bitstream = bitstream;
     trailers = trailers-refused;
+    editions = edition-refusals;
   };
   outcomes = record {
     multiplexed = multiplexed;
@@ -567,6 +623,7 @@ numbers = record {
     loaded = loaded;
     routed = routed;
     trailed = trailed;
+    editions = edition-outcomes;
   };
   run-files = run-files;
   answers = answers;

@@ -9,6 +9,8 @@ unfolding computing.arrays
 stated = record {
   packets = refl;
   bits = refl;
+  by-edition = refl;
+  bits-by-edition = refl;
 }
 
 packets : arrays.Packets
@@ -136,5 +138,9 @@ trailers = record {
   read = refl;
 }
 
+editions : arrays.Editions
+unfolding computing.arrays
+editions = record { flushed = refl; entered = refl; judged = refl; written = refl; read = refl; unused = refl }
+
 pub in-c : arrays.InC
-in-c = record { short = short; outside = outside; refused = refused; stated = stated; packets = packets; multiplexer = multiplexer; extractor = extractor; judge = judge; bits = bits; relay = relay; trailers = trailers }
+in-c = record { short = short; outside = outside; refused = refused; stated = stated; packets = packets; multiplexer = multiplexer; extractor = extractor; judge = judge; bits = bits; relay = relay; trailers = trailers; editions = editions }

@@ -11,6 +11,8 @@ use borrow.Author.Tests.{le-leb}
 use Rattle.octets.specs.Basics.{All}
 use Rattle.frames.specs.Frame.{in-range}
 use Rattle.frames.specs.BitFrame.{bits-in-range}
+use Rattle.frames.specs.declared.Edition.{Edition}
+use Rattle.frames.specs.declared.Edition.the-variants.{Former, CycleUnused, CycleUsed}
 use Rattle.frames.specs.declared.Link.{Link}
 use Rattle.frames.specs.declared.Settings.{Settings}
 use Rattle.frames.specs.declared.bits.BitSettings.{BitSettings}
@@ -22,7 +24,7 @@ use Rattle.extractor.specs.Calls.{Listened}
 use Rattle.extractor.proofs.Theorems.{says-the-rules}
 use Rattle.judge.specs.Calls.{CloseSaid, RunCalls}
 use Rattle.arrays.specs.Arrays.{bit}
-use Rattle.exports.specs.Channel.{settings-numbers, zone-for, link-of, settings-of}
+use Rattle.exports.specs.Channel.{settings-numbers, edition-number, edition-of, zone-for, link-of, settings-of}
 use Rattle.exports.specs.Bits.{bit-settings-of}
 use Rattle.carries.specs.Careful.{Sending, run}
 use Rattle.carries.specs.Demand2List.{Delivers}
@@ -52,27 +54,46 @@ flag-fits : (b : Bool) → leb (bit b) 1 ≡ true
 flag-fits true = refl
 flag-fits false = refl
 
+-- and an edition's number is one of three
+edition-fits : (e : Edition) → leb (edition-number e) 2 ≡ true
+edition-fits Former = refl
+edition-fits CycleUnused = refl
+edition-fits CycleUsed = refl
+
+edition-back : (e : Edition) → edition-of (edition-number e) ≡ e
+unfolding edition-of
+edition-back Former = refl
+edition-back CycleUnused = refl
+edition-back CycleUsed = refl
+
 -- the link, and the octets of the zone, behind the numbers that state them
-link-stated : (l : Link) (rest : List ℕ) → Linked l → link-of (l .spacecraft ∷ l .channel ∷ rest) (bit (l .trailed)) ≡ l
+link-stated : (l : Link) (rest : List ℕ) → Linked l
+    → link-of (l .spacecraft ∷ l .channel ∷ rest) (bit (l .trailed)) (edition-number (l .edition)) ≡ l
 unfolding link-of
 link-stated l rest range =
-    rw (uncut (l .spacecraft) 4294967295 (omega arith), uncut (l .channel) 4294967295 (omega arith), flag-back (l .trailed)) refl
+    rw (
+      uncut (l .spacecraft) 4294967295 (omega arith),
+      uncut (l .channel) 4294967295 (omega arith),
+      flag-back (l .trailed),
+      edition-back (l .edition),
+    )
+    refl
 
-zone-stated : (zone fill : ℕ) (on : Bool) → fill ≤ 255 → zone-for zone fill (bit on) ≡ zone
+zone-stated : (zone fill : ℕ) (on : Bool) (e : Edition) → fill ≤ 255 → zone-for zone fill (bit on) (edition-number e) ≡ zone
 unfolding zone-for
-zone-stated zone fill on octet = rw (le-leb fill 255 octet, flag-fits on) refl
+zone-stated zone fill on e octet = rw (le-leb fill 255 octet, flag-fits on, edition-fits e) refl
 
 states : (s : Settings) (rest : List ℕ) → in-range s ≡ true → s .fill ≤ 255
-    → settings-of (s .link .spacecraft ∷ s .link .channel ∷ s .zone ∷ s .limit ∷ s .fill ∷ bit (s .link .trailed) ∷ rest) ≡ s
+    → settings-of (s .link .spacecraft ∷ s .link .channel ∷ s .zone ∷ s .limit ∷ s .fill ∷ bit (s .link .trailed) ∷ edition-number (s .link .edition) ∷ rest) ≡ s
 unfolding settings-of
 states s rest ok octet =
-    rw (link-stated (s .link) _ (settled s ok .on-link), zone-stated (s .zone) (s .fill) (s .link .trailed) octet, uncut (s .fill) 255 octet) refl
+    rw (link-stated (s .link) _ (settled s ok .on-link), zone-stated (s .zone) (s .fill) (s .link .trailed) (s .link .edition) octet, uncut (s .fill) 255 octet) refl
 
 bits-state : (s : BitSettings) (rest : List ℕ) → bits-in-range s ≡ true → s .fill ≤ 255
-    → bit-settings-of (s .link .spacecraft ∷ s .link .channel ∷ s .width ∷ s .fill ∷ bit (s .link .trailed) ∷ rest) ≡ s
+    → bit-settings-of (s .link .spacecraft ∷ s .link .channel ∷ s .width ∷ s .fill ∷ bit (s .link .trailed) ∷ edition-number (s .link .edition) ∷ rest) ≡ s
 unfolding bit-settings-of
 bits-state s rest ok octet =
-    rw (link-stated (s .link) _ (bits-settled s ok .on-link), zone-stated (s .width) (s .fill) (s .link .trailed) octet, uncut (s .fill) 255 octet) refl
+    rw (link-stated (s .link) _ (bits-settled s ok .on-link), zone-stated (s .width) (s .fill) (s .link .trailed) (s .link .edition) octet, uncut (s .fill) 255 octet) refl
 
 module _ (settings : List ℕ) (stated : settings-numbers ≤ length settings) where
   abbrev s : Settings

@@ -13,6 +13,7 @@ use Rattle.space.specs.declared.SpaceHeader.{SpaceHeader}
 use Rattle.trailer.specs.Printed.{AsPrinted, Syndrome}
 use Rattle.trailer.specs.WrongBits.{Sharp}
 use Rattle.frames.specs.Statements.{HeadersRead}
+use Rattle.frames.specs.Editions.{Editions}
 use Rattle.frames.specs.Worth.{Worth}
 use Rattle.frames.specs.BitFrame.{bit-frame-length}
 use Rattle.frames.specs.declared.bits.BitSettings.{BitSettings}
@@ -69,6 +70,7 @@ pub record Bits : Type 0 where
 pub record Demand2 : Type 0 where
   pub fields : Fields
   pub headers-read : HeadersRead
+  pub editions : Editions
   pub trailers : Trailers
   pub packets-read : Packets
   pub bits-read : Bits

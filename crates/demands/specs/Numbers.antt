@@ -16,6 +16,7 @@ use Rattle.demands.specs.Numbers.Bits as bits
 use Rattle.demands.specs.Numbers.RunFiles as runs
 use Rattle.demands.specs.Numbers.Answers.{Cases, Together}
 use Rattle.demands.specs.Numbers.Trailers as trailers
+use Rattle.demands.specs.Numbers.Editions as editions
 use Rattle.demands.specs.Numbers.InC as arrays
 pub mod Samples
 pub mod Octets
@@ -33,6 +34,7 @@ pub mod Stepping
 pub mod Judging
 pub mod Bits
 pub mod Trailers
+pub mod Editions
 pub mod RunFiles
 pub mod Answers
 pub mod InC
@@ -45,6 +47,7 @@ pub record Layouts : Type 0 where
   pub frame-written : frames.Written
   pub wheel : frames.Wheel
   pub trailers : trailers.Octets
+  pub editions : editions.Layouts
   pub space-packets : SpacePackets
   pub encapsulation-packets : EncapsulationPackets
   pub parts : Parts
@@ -65,6 +68,7 @@ pub record Refusals : Type 0 where
   pub write-idle : IdlePackets
   pub bitstream : bits.Refusals
   pub trailers : trailers.Refusals
+  pub editions : editions.Refusals
 
 -- what each call does and leaves
 pub record Outcomes : Type 0 where
@@ -82,6 +86,7 @@ pub record Outcomes : Type 0 where
   pub loaded : relaying.Tables
   pub routed : relaying.Ways
   pub trailed : trailers.Outcomes
+  pub editions : editions.Outcomes
 
 pub record Numbers : Type 0 where
   pub ranges : Edges

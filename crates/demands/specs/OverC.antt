@@ -22,7 +22,7 @@ use Rattle.judge.specs.Calls.{judge-calls, judge-run}
 use Rattle.judge.specs.declared.Judge.the-variants.{Open}
 use Rattle.arrays.specs.Arrays.{bit}
 use Rattle.exports.specs.Left.{Left}
-use Rattle.exports.specs.Channel.{settings-numbers, settings-of}
+use Rattle.exports.specs.Channel.{settings-numbers, edition-number, settings-of}
 use Rattle.exports.specs.Extract.{step-leaves}
 use Rattle.exports.specs.Bits.{bit-settings-numbers, bit-settings-of}
 use Rattle.carries.specs.Carries.{Carries}
@@ -122,6 +122,6 @@ pub record OverC : Type 0 where
   pub losses : (settings : List ℕ) → bit-settings-numbers ≤ length settings → LossesInC settings (bit-settings-of settings)
   pub demand-3 : (settings : List ℕ) → settings-numbers ≤ length settings → Demand3InC settings (settings-of settings)
   pub stated : (s : Settings) (rest : List ℕ) → in-range s ≡ true → s .fill ≤ 255
-      → settings-of (s .link .spacecraft ∷ s .link .channel ∷ s .zone ∷ s .limit ∷ s .fill ∷ bit (s .link .trailed) ∷ rest) ≡ s
+      → settings-of (s .link .spacecraft ∷ s .link .channel ∷ s .zone ∷ s .limit ∷ s .fill ∷ bit (s .link .trailed) ∷ edition-number (s .link .edition) ∷ rest) ≡ s
   pub bits-stated : (s : BitSettings) (rest : List ℕ) → bits-in-range s ≡ true → s .fill ≤ 255
-      → bit-settings-of (s .link .spacecraft ∷ s .link .channel ∷ s .width ∷ s .fill ∷ bit (s .link .trailed) ∷ rest) ≡ s
+      → bit-settings-of (s .link .spacecraft ∷ s .link .channel ∷ s .width ∷ s .fill ∷ bit (s .link .trailed) ∷ edition-number (s .link .edition) ∷ rest) ≡ s

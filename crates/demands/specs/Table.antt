@@ -9,7 +9,9 @@ use Rattle.wrapping.specs.Passes as wrapping
 use Rattle.frames.specs.Passes as frames
 use Rattle.frames.specs.declared.Settings.{Settings}
 use Rattle.multiplexer.specs.Passes as multiplexer
-use Rattle.extractor.specs.Passes.{sample, first-frame, second-frame, Pass, passes, SamplePasses, trailed-sample, trailed-passes, TrailedPasses}
+use Rattle.frames.specs.declared.Edition.{Edition}
+use Rattle.frames.specs.declared.Edition.the-variants.{Former, CycleUsed}
+use Rattle.extractor.specs.Passes.{sample, first-frame, second-frame, Pass, passes, SamplePasses, cycle-passes, CyclePasses, SpoiltPasses, trailed-sample, trailed-passes, TrailedPasses}
 use Rattle.judge.specs.Judge.{Verdict, pass, fault, verdict}
 use Rattle.bitstream.specs.Passes as bitstream
 use Rattle.demands.specs.Numbers.{Numbers}
@@ -25,15 +27,15 @@ pub record Shown : Type 0 where
 
 abbrev pub shows : List ℕ → Shown
 shows p =
-    let r : Reading = reading (sample .limit) p in
+    let r : Reading = reading (sample Former .limit) p in
     record { version = r .version; key = r .key; idle = r .idle; length = r .total }
 
 -- the two frames of the sample run octet by octet, and its three packets: `space 5 8`, `encap 2 5`, `idle 7`
 pub record Pass1 : Type 0 where
-  pub first-octets : first-frame
+  pub first-octets : first-frame Former
       ≡ 0x50 ∷ 0x83 ∷ 0x00 ∷ 0x00 ∷ 0x00 ∷ 0x00 ∷ 0x00 ∷ 0x00
       ∷ 0x00 ∷ 0x05 ∷ 0xC0 ∷ 0x00 ∷ 0x00 ∷ 0x01 ∷ 0xAA ∷ 0xBB ∷ 0xE9 ∷ 0x05 ∷ []
-  pub second-octets : second-frame 1 3
+  pub second-octets : second-frame Former 1 3
       ≡ 0x50 ∷ 0x83 ∷ 0x00 ∷ 0x00 ∷ 0x01 ∷ 0x00 ∷ 0x00 ∷ 0x03
       ∷ 0x11 ∷ 0x22 ∷ 0x33 ∷ 0xE1 ∷ 0x07 ∷ 0x55 ∷ 0x55 ∷ 0x55 ∷ 0x55 ∷ 0x55 ∷ []
   pub space-5-8 : shows (0x00 ∷ 0x05 ∷ 0xC0 ∷ 0x00 ∷ 0x00 ∷ 0x01 ∷ 0xAA ∷ 0xBB ∷ []) ≡ record { version = 0; key = 5; idle = false; length = 8 }
@@ -45,13 +47,22 @@ abbrev pub verdicts : Settings → List Pass → List Verdict
 verdicts s [] = []
 verdicts s (p ∷ ps) = verdict s (p .frames) ∷ verdicts s ps
 
+-- what it says of the sample passes, at each edition
+abbrev pub JudgedPasses : Type 0
+JudgedPasses = (e : Edition) → verdicts (sample e) (passes e)
+    ≡ pass ∷ fault 0 ∷ fault 1 ∷ fault 1 ∷ fault 1 ∷ fault 1 ∷ fault 0 ∷ fault 0 ∷ fault 1 ∷ fault 2 ∷ fault 0 ∷ []
+
 -- THE TABLE. The extractor's lines and the judge's verdicts are over one list of runs: the run of pass 1; 2 its second frame alone;
--- 3 count 2; 4 pointer 2; 5 pointer 9, pointer 10, and both alone; 6 pointer 2,047; 7 the wheel with idle zones and with packets.
+-- 3 count 2; 4 pointer 2; 5 pointer 9, pointer 10, and both alone; 6 pointer 2,047; 7 the wheel with idle zones and with packets. They are so at
+-- each edition of the header.
 pub record Table : Type 0 where
   pub pass-1 : Pass1
   pub passes-1-to-7 : SamplePasses
-  pub judged-1-to-7 : verdicts sample passes
-      ≡ pass ∷ fault 0 ∷ fault 1 ∷ fault 1 ∷ fault 1 ∷ fault 1 ∷ fault 0 ∷ fault 0 ∷ fault 1 ∷ fault 2 ∷ fault 0 ∷ []
+  pub judged-1-to-7 : JudgedPasses
+  -- the count of 28 bits beyond its own octets and round its wheel, and each wrong bit of the signalling octet
+  pub passes-cycle : CyclePasses
+  pub judged-cycle : verdicts (sample CycleUsed) cycle-passes ≡ pass ∷ fault 1 ∷ fault 1 ∷ pass ∷ []
+  pub passes-spoilt : SpoiltPasses
   -- the run of pass 1 with trailers, and one after another of what can be wrong with them
   pub passes-trailed : TrailedPasses
   pub judged-trailed : verdicts trailed-sample trailed-passes ≡ pass ∷ fault 1 ∷ fault 1 ∷ fault 1 ∷ fault 1 ∷ fault 1 ∷ fault 1 ∷ []

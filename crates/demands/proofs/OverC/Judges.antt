@@ -12,9 +12,10 @@ use Rattle.octets.specs.Basics.{and, first}
 use Rattle.octets.proofs.Choices.{and-true}
 use Rattle.octets.proofs.Tests.{test}
 use Rattle.frames.specs.Link.{count-width}
+use Rattle.frames.proofs.Wheel.{wheel-in-word}
 use Rattle.frames.specs.Frame.{most-frames}
 use Rattle.frames.specs.declared.Settings.{Settings}
-use Rattle.extractor.specs.Records.{reachable, holds-well}
+use Rattle.extractor.specs.Records.{on-wheel, reachable, holds-well}
 use Rattle.judge.specs.Calls.{counts-well, judge-reachable, frame-refusals, judge-frame, FrameSaid, frame-call, close-says, close-call, RunCalls, judge-calls, judge-run}
 use Rattle.judge.specs.declared.Judge.{Judge}
 use Rattle.judge.specs.declared.Judge.the-variants.{Open, Sound, Faulty}
@@ -32,13 +33,13 @@ use Rattle.demands.proofs.OverC.Arrays.{long-enough, told-front, told-l
 
 -- a record that passes the test for refusal 10 has numbers of 32 bits
 judge-words : (s : Settings) (store : List ℕ) (j : Judge) → judge-reachable s store j ≡ true → JudgeWords j
-unfolding judge-reachable reachable counts-well count-width
+unfolding judge-reachable reachable counts-well
 judge-words s store Open e = tt
 judge-words s store (Sound tally last held) e =
-    let r = and-true (and (ltb last (2 ^ 24)) (holds-well s store held)) (and (leb 1 tally) (and (leb tally most-frames) (leb held (tally * s .zone)))) e in
-    let on : last < 2 ^ 24 = ltb-true last (2 ^ 24) (and-true (ltb last (2 ^ 24)) _ (r .0) .0) in
+    let r = and-true (and (on-wheel s last) (holds-well s store held)) (and (leb 1 tally) (and (leb tally most-frames) (leb held (tally * s .zone)))) e in
+    let on : last < 2 ^ count-width (s .link) = ltb-true last (2 ^ count-width (s .link)) (and-true (on-wheel s last) _ (r .0) .0) in
     let few : tally ≤ most-frames = leb-true tally most-frames (and-true (leb tally most-frames) _ (and-true (leb 1 tally) _ (r .1) .1) .0) in
-    (omega arith, omega arith)
+    (omega arith, omega (arith, wheel-in-word (s .link)))
 judge-words s store (Faulty tally at) e =
     let inside : at < tally = ltb-true at tally (and-true (ltb at tally) _ e .0) in
     let few : tally ≤ most-frames = leb-true tally most-frames (and-true (ltb at tally) _ e .1) in

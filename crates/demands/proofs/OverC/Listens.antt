@@ -12,6 +12,7 @@ use Rattle.octets.specs.Basics.{pick, first}
 use Rattle.octets.proofs.Choices.{and-true}
 use Rattle.octets.proofs.Tests.{test}
 use Rattle.frames.specs.Link.{count-width}
+use Rattle.frames.proofs.Wheel.{wheel-in-word}
 use Rattle.frames.specs.declared.Settings.{Settings}
 use Rattle.extractor.specs.Extract.{refused, taken}
 use Rattle.extractor.specs.Records.{on-wheel, reachable, stands-for, enter, enter-rows, step-rows, Stepped, step, step-call, shown}
@@ -58,10 +59,7 @@ step-back f store Spent answer h = rw (told-front answer (4 ∷ 0 ∷ 0 ∷ 0 �
 
 -- a record that passes the test for refusal 10 has a count of 32 bits
 count-word : (s : Settings) (last : ℕ) → on-wheel s last ≡ true → last ≤ 4294967295
-unfolding count-width
-count-word s last e =
-    let on : last < 2 ^ 24 = ltb-true last (2 ^ 24) e in
-    omega arith
+count-word s last e = omega (arith, ltb-true last (2 ^ count-width (s .link)) e, wheel-in-word (s .link))
 
 extractor-words : (s : Settings) (store : List ℕ) (x : Extractor) → reachable s store x ≡ true → ExtractorWords x
 unfolding reachable

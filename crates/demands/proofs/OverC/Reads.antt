@@ -10,6 +10,7 @@ use lib.Dec.{eqb}
 use borrow.Author.Tests.{ltb-true, le-ltb, eqb-true, eqb-false}
 use Rattle.octets.proofs.Tests.{test}
 use Rattle.frames.specs.Link.{count-width}
+use Rattle.frames.proofs.Wheel.{wheel-in-word}
 use Rattle.frames.specs.declared.bits.BitSettings.{BitSettings}
 use Rattle.bitstream.specs.Bitstream.{reader-reachable, reading}
 use Rattle.bitstream.specs.Loss.{BitsSaid}
@@ -32,11 +33,11 @@ use Rattle.demands.proofs.OverC.Arrays.{flag-back, told-front, told-lon
 
 -- a record that passes the test for refusal 10 has a count of 32 bits
 reader-words : (s : BitSettings) (x : Reader) → reader-reachable s x ≡ true → ReaderWords x
-unfolding reader-reachable count-width
+unfolding reader-reachable
 reader-words s Fresh e = tt
 reader-words s (Last c waiting) e =
-    let on : c < 2 ^ 24 = ltb-true c (2 ^ 24) e in
-    omega arith
+    let on : c < 2 ^ count-width (s .link) = ltb-true c (2 ^ count-width (s .link)) e in
+    omega (arith, wheel-in-word (s .link))
 
 -- what a caller reads is what the answer says
 unit-back : (s : BitSettings) (f : List ℕ) (a : Reading) (answer : List ℕ) → 6 ≤ length answer

@@ -12,6 +12,7 @@ use Rattle.octets.specs.Basics.{pick, first}
 use Rattle.octets.proofs.Choices.{and-true}
 use Rattle.octets.proofs.Tests.{test}
 use Rattle.frames.specs.Link.{count-width}
+use Rattle.frames.proofs.Wheel.{wheel-in-word}
 use Rattle.frames.specs.declared.Settings.{Settings}
 use Rattle.multiplexer.specs.Multiplex.{begun, mux-reachable, idle-frame}
 use Rattle.multiplexer.specs.Calls.{Call, to-put, to-flush, to-idle, call-rows, call, Answer, answer}
@@ -30,10 +31,11 @@ use Rattle.demands.proofs.OverC.Arrays.{long-enough, told-front, told-l
 
 -- a record that passes the test for refusal 10 has a count of 32 bits
 mux-word : (s : Settings) (m : Mux) → mux-reachable s m ≡ true → Word (m .count)
-unfolding mux-reachable count-width
+unfolding mux-reachable
 mux-word s m e =
-    let on : m .count < 2 ^ 24 = ltb-true (m .count) (2 ^ 24) (and-true (ltb (m .count) (2 ^ 24)) _ e .0) in
-    omega arith
+    let wheel : ℕ = 2 ^ count-width (s .link) in
+    let on : m .count < wheel = ltb-true (m .count) wheel (and-true (ltb (m .count) wheel) _ e .0) in
+    omega (arith, wheel-in-word (s .link))
 
 -- ---- what one call leaves
 

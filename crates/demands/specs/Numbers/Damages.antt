@@ -14,12 +14,7 @@ use Rattle.multiplexer.specs.Multiplex.{begun}
 use Rattle.multiplexer.specs.Calls.{to-put, to-flush, to-idle, Answer, answer}
 use Rattle.extractor.specs.Answers.{enter-answer, step-answer}
 use Rattle.extractor.specs.declared.Extractor.the-variants.{InStep, Walking}
-use Rattle.demands.specs.Numbers.Samples.{set, small, small-trailed, least, frame, lent, ten}
-
--- so many numbers from `n` on
-abbrev pub from : ℕ → ℕ → List ℕ
-from n zero = []
-from n (suc k) = n ∷ from (suc n) k
+use Rattle.demands.specs.Numbers.Samples.{set, small, small-trailed, least, frame, from, lent, ten}
 
 -- what the reader finds wrong, 0 for nothing
 abbrev pub damage : ℕ → List ℕ → ℕ

@@ -13,24 +13,33 @@ use Rattle.exports.specs.Extract.{enter-leaves, step-leaves, show-leaves}
 use Rattle.exports.specs.Judging.{judge-leaves, close-leaves}
 use Rattle.exports.specs.Bits.{bit-settings-of, write-leaves, read-leaves}
 use Rattle.exports.specs.Relaying.{load-leaves, route-leaves}
-use Rattle.demands.specs.Numbers.Samples.{small, small-trailed, two-octets, two-trailed, frame, lent, ten, seven, each}
+use Rattle.demands.specs.Numbers.Editions.{editions}
+use Rattle.demands.specs.Numbers.Samples.{small, small-trailed, small-by, two-octets, two-trailed, two-by, frame, lent, ten, seven, each}
 
--- spacecraft, channel, Z, M, fill and trailer; and spacecraft, channel, W, fill and trailer
+-- spacecraft, channel, Z, M, fill, trailer and edition; and spacecraft, channel, W, fill, trailer and edition
+abbrev pub stating : ℕ → List ℕ
+stating edition = 66 ∷ 3 ∷ 10 ∷ 12 ∷ 0x55 ∷ 0 ∷ edition ∷ []
+
 abbrev pub settings : List ℕ
-settings = 66 ∷ 3 ∷ 10 ∷ 12 ∷ 0x55 ∷ 0 ∷ []
+settings = stating 0
 
 abbrev pub settings-trailed : List ℕ
-settings-trailed = 66 ∷ 3 ∷ 10 ∷ 12 ∷ 0x55 ∷ 1 ∷ []
+settings-trailed = 66 ∷ 3 ∷ 10 ∷ 12 ∷ 0x55 ∷ 1 ∷ 0 ∷ []
+
+abbrev pub bits-stating : ℕ → List ℕ
+bits-stating edition = 66 ∷ 3 ∷ 2 ∷ 0x55 ∷ 0 ∷ edition ∷ []
 
 abbrev pub bit-settings : List ℕ
-bit-settings = 66 ∷ 3 ∷ 2 ∷ 0x55 ∷ 0 ∷ []
+bit-settings = bits-stating 0
 
 abbrev pub bit-settings-trailed : List ℕ
-bit-settings-trailed = 66 ∷ 3 ∷ 2 ∷ 0x55 ∷ 1 ∷ []
+bit-settings-trailed = 66 ∷ 3 ∷ 2 ∷ 0x55 ∷ 1 ∷ 0 ∷ []
 
 pub record Settings : Type 0 where
   pub packets : map settings-of (settings ∷ settings-trailed ∷ []) ≡ small ∷ small-trailed ∷ []
   pub bits : map bit-settings-of (bit-settings ∷ bit-settings-trailed ∷ []) ≡ two-octets ∷ two-trailed ∷ []
+  pub by-edition : map (λ n. settings-of (stating n)) (0 ∷ 1 ∷ 2 ∷ []) ≡ map small-by editions
+  pub bits-by-edition : map (λ n. bit-settings-of (bits-stating n)) (0 ∷ 1 ∷ 2 ∷ []) ≡ map two-by editions
 
 -- a data unit of two octets in a packet of protocol 6, extension 5
 abbrev pub six : List ℕ
@@ -180,17 +189,17 @@ pub record Short : Type 0 where
   pub space : read-space-leaves [] (lent 7) ∷ write-space-leaves (lent 6) (lent 6) ∷ [] ≡ left 2 [] [] (lent 7) ∷ left 2 [] (lent 6) [] ∷ []
   -- of settings, of a record and of an answer
   pub mux : begin-leaves (lent 3)
-      ∷ mux-leaves to-flush 1 flush-numbers (lent 5) (lent 4) (lent 2) (lent 1)
-      ∷ mux-leaves to-flush 1 flush-numbers (lent 6) (lent 3) (lent 2) (lent 1)
-      ∷ mux-leaves to-flush 1 flush-numbers (lent 6) (lent 4) (lent 2) []
-      ∷ mux-leaves (to-put []) 3 put-numbers (lent 6) (lent 4) (lent 2) (lent 2)
+      ∷ mux-leaves to-flush 1 flush-numbers (lent 6) (lent 4) (lent 2) (lent 1)
+      ∷ mux-leaves to-flush 1 flush-numbers (lent 7) (lent 3) (lent 2) (lent 1)
+      ∷ mux-leaves to-flush 1 flush-numbers (lent 7) (lent 4) (lent 2) []
+      ∷ mux-leaves (to-put []) 3 put-numbers (lent 7) (lent 4) (lent 2) (lent 2)
       ∷ []
       ≡ left 2 (lent 3) [] [] ∷ left 2 (lent 4) (lent 2) (lent 1) ∷ left 2 (lent 3) (lent 2) (lent 1) ∷ left 2 (lent 4) (lent 2) [] ∷ left 2 (lent 4) (lent 2) (lent 2) ∷ []
-  pub extractor : enter-leaves (lent 5) (lent 4) [] [] (lent 7) ∷ enter-leaves (lent 6) (lent 3) [] [] (lent 7) ∷ enter-leaves (lent 6) (lent 4) [] [] (lent 6) ∷ step-leaves (lent 6) (lent 4) (lent 2) [] (lent 4) ∷ show-leaves (lent 4) [] [] (lent 3) ∷ show-leaves (lent 5) [] [] (lent 2) ∷ []
+  pub extractor : enter-leaves (lent 6) (lent 4) [] [] (lent 7) ∷ enter-leaves (lent 7) (lent 3) [] [] (lent 7) ∷ enter-leaves (lent 7) (lent 4) [] [] (lent 6) ∷ step-leaves (lent 7) (lent 4) (lent 2) [] (lent 4) ∷ show-leaves (lent 4) [] [] (lent 3) ∷ show-leaves (lent 5) [] [] (lent 2) ∷ []
       ≡ left 2 (lent 4) [] (lent 7) ∷ left 2 (lent 3) [] (lent 7) ∷ left 2 (lent 4) [] (lent 6) ∷ left 2 (lent 4) (lent 2) (lent 4) ∷ left 2 [] [] (lent 3) ∷ left 2 [] [] (lent 2) ∷ []
-  pub judge : judge-leaves (lent 5) (lent 4) (lent 2) [] ∷ judge-leaves (lent 6) (lent 3) (lent 2) [] ∷ close-leaves (lent 6) (lent 4) [] (lent 1) ∷ []
+  pub judge : judge-leaves (lent 6) (lent 4) (lent 2) [] ∷ judge-leaves (lent 7) (lent 3) (lent 2) [] ∷ close-leaves (lent 7) (lent 4) [] (lent 1) ∷ []
       ≡ left 2 (lent 4) (lent 2) [] ∷ left 2 (lent 3) (lent 2) [] ∷ left 2 [] [] (lent 1) ∷ []
-  pub bits : write-leaves (lent 4) (lent 1) [] 0 (lent 2) ∷ write-leaves (lent 5) [] [] 0 (lent 2) ∷ read-leaves (lent 4) (lent 3) [] (lent 6) ∷ read-leaves (lent 5) (lent 2) [] (lent 6) ∷ read-leaves (lent 5) (lent 3) [] (lent 5) ∷ []
+  pub bits : write-leaves (lent 5) (lent 1) [] 0 (lent 2) ∷ write-leaves (lent 6) [] [] 0 (lent 2) ∷ read-leaves (lent 5) (lent 3) [] (lent 6) ∷ read-leaves (lent 6) (lent 2) [] (lent 6) ∷ read-leaves (lent 6) (lent 3) [] (lent 5) ∷ []
       ≡ left 2 (lent 1) (lent 2) [] ∷ left 2 [] (lent 2) [] ∷ left 2 (lent 3) [] (lent 6) ∷ left 2 (lent 2) [] (lent 6) ∷ left 2 (lent 3) [] (lent 5) ∷ []
   -- a list that ends within an entry is short too
   pub relay : load-leaves (5 ∷ 256 ∷ 5 ∷ []) paths ∷ load-leaves (5 ∷ 256 ∷ []) (lent 64) ∷ []
@@ -198,28 +207,34 @@ pub record Short : Type 0 where
   pub route : route-leaves 6 (lent 64) ten (lent 2) (lent 3) ∷ route-leaves 6 paths ten (lent 2) (lent 2) ∷ []
       ≡ left 2 [] (lent 2) (lent 3) ∷ left 2 [] (lent 2) (lent 2) ∷ []
 
--- Settings that cannot be are refused by 1, in every call that takes them: a spacecraft above 255, a channel above 62, a fill above 255 and a trailer's
--- number above 1, however great; and all stays as it was.
+-- Settings that cannot be are refused by 1, in every call that takes them: a spacecraft above 255, a channel above 62, a fill above 255, a trailer's
+-- number above 1 and an edition's above 2, however great; and all stays as it was.
 abbrev pub outside : List (List ℕ)
 outside =
-    (256 ∷ 3 ∷ 10 ∷ 12 ∷ 0x55 ∷ 0 ∷ [])
-    ∷ (4294967362 ∷ 3 ∷ 10 ∷ 12 ∷ 0x55 ∷ 0 ∷ [])
-    ∷ (66 ∷ 63 ∷ 10 ∷ 12 ∷ 0x55 ∷ 0 ∷ [])
-    ∷ (66 ∷ 4294967299 ∷ 10 ∷ 12 ∷ 0x55 ∷ 0 ∷ [])
-    ∷ (66 ∷ 3 ∷ 10 ∷ 12 ∷ 256 ∷ 0 ∷ [])
-    ∷ (66 ∷ 3 ∷ 10 ∷ 12 ∷ 4294967381 ∷ 0 ∷ [])
-    ∷ (66 ∷ 3 ∷ 10 ∷ 12 ∷ 0x55 ∷ 2 ∷ [])
-    ∷ (66 ∷ 3 ∷ 10 ∷ 12 ∷ 0x55 ∷ 4294967297 ∷ [])
+    (256 ∷ 3 ∷ 10 ∷ 12 ∷ 0x55 ∷ 0 ∷ 0 ∷ [])
+    ∷ (4294967362 ∷ 3 ∷ 10 ∷ 12 ∷ 0x55 ∷ 0 ∷ 0 ∷ [])
+    ∷ (66 ∷ 63 ∷ 10 ∷ 12 ∷ 0x55 ∷ 0 ∷ 0 ∷ [])
+    ∷ (66 ∷ 4294967299 ∷ 10 ∷ 12 ∷ 0x55 ∷ 0 ∷ 0 ∷ [])
+    ∷ (66 ∷ 3 ∷ 10 ∷ 12 ∷ 256 ∷ 0 ∷ 0 ∷ [])
+    ∷ (66 ∷ 3 ∷ 10 ∷ 12 ∷ 4294967381 ∷ 0 ∷ 0 ∷ [])
+    ∷ (66 ∷ 3 ∷ 10 ∷ 12 ∷ 0x55 ∷ 2 ∷ 0 ∷ [])
+    ∷ (66 ∷ 3 ∷ 10 ∷ 12 ∷ 0x55 ∷ 4294967297 ∷ 0 ∷ [])
+    ∷ (66 ∷ 3 ∷ 10 ∷ 12 ∷ 0x55 ∷ 0 ∷ 3 ∷ [])
+    ∷ (66 ∷ 3 ∷ 10 ∷ 12 ∷ 0x55 ∷ 0 ∷ 4294967296 ∷ [])
+    ∷ (66 ∷ 3 ∷ 10 ∷ 12 ∷ 0x55 ∷ 0 ∷ 4294967298 ∷ [])
     ∷ []
 
 abbrev pub bits-outside : List (List ℕ)
 bits-outside =
-    (256 ∷ 3 ∷ 2 ∷ 0x55 ∷ 0 ∷ [])
-    ∷ (66 ∷ 63 ∷ 2 ∷ 0x55 ∷ 0 ∷ [])
-    ∷ (4294967362 ∷ 3 ∷ 2 ∷ 0x55 ∷ 0 ∷ [])
-    ∷ (66 ∷ 3 ∷ 2 ∷ 256 ∷ 0 ∷ [])
-    ∷ (66 ∷ 3 ∷ 2 ∷ 0x55 ∷ 2 ∷ [])
-    ∷ (66 ∷ 3 ∷ 2 ∷ 0x55 ∷ 4294967297 ∷ [])
+    (256 ∷ 3 ∷ 2 ∷ 0x55 ∷ 0 ∷ 0 ∷ [])
+    ∷ (66 ∷ 63 ∷ 2 ∷ 0x55 ∷ 0 ∷ 0 ∷ [])
+    ∷ (4294967362 ∷ 3 ∷ 2 ∷ 0x55 ∷ 0 ∷ 0 ∷ [])
+    ∷ (66 ∷ 3 ∷ 2 ∷ 256 ∷ 0 ∷ 0 ∷ [])
+    ∷ (66 ∷ 3 ∷ 2 ∷ 0x55 ∷ 2 ∷ 0 ∷ [])
+    ∷ (66 ∷ 3 ∷ 2 ∷ 0x55 ∷ 4294967297 ∷ 0 ∷ [])
+    ∷ (66 ∷ 3 ∷ 2 ∷ 0x55 ∷ 0 ∷ 3 ∷ [])
+    ∷ (66 ∷ 3 ∷ 2 ∷ 0x55 ∷ 0 ∷ 4294967296 ∷ [])
+    ∷ (66 ∷ 3 ∷ 2 ∷ 0x55 ∷ 0 ∷ 4294967298 ∷ [])
     ∷ []
 
 pub record Outside : Type 0 where
@@ -337,6 +352,28 @@ pub record Trailers : Type 0 where
   pub read : map (λ (low : ℕ). read-leaves bit-settings-trailed (1 ∷ 3 ∷ 1 ∷ []) (frame 4 0x00 0x07 (0xAB ∷ 0x55 ∷ 0xDD ∷ low ∷ [])) (lent 6)) (0xA6 ∷ 0xA7 ∷ [])
       ≡ left 0 (1 ∷ 4 ∷ 0 ∷ []) [] (4 ∷ 0 ∷ 1 ∷ 8 ∷ 8 ∷ 1 ∷ []) ∷ left 13 (1 ∷ 3 ∷ 1 ∷ []) [] (0 ∷ 0 ∷ 0 ∷ 0 ∷ 0 ∷ 0 ∷ []) ∷ []
 
+-- the count of 28 bits, through each call: written, entered, judged and read; and frames without usage 1, by which nothing changes
+pub record Editions : Type 0 where
+  pub flushed : mux-leaves to-flush 1 flush-numbers (stating 2) (268435455 ∷ 8 ∷ 0 ∷ 0 ∷ []) (lent 18) (lent 1)
+      ≡ left 0 (0 ∷ 0 ∷ 2047 ∷ 0 ∷ []) (0x50 ∷ 0x83 ∷ 0xFF ∷ 0xFF ∷ 0xFF ∷ 0x4F ∷ 0 ∷ 0 ∷ (lent 8 ++ (0xE1 ∷ 0x02 ∷ []))) (2 ∷ [])
+  pub entered : map (λ (o : ℕ). enter-leaves (stating 2) (2 ∷ 16777215 ∷ 0 ∷ 0 ∷ []) store (0x50 ∷ 0x83 ∷ 0 ∷ 0 ∷ 0 ∷ o ∷ 0 ∷ 3 ∷ rest) (lent 7)) (0x41 ∷ 0xC3 ∷ 0x01 ∷ [])
+      ≡ left 0 (3 ∷ 16777216 ∷ 0 ∷ 3 ∷ []) [] (1 ∷ 16777216 ∷ 0 ∷ 0 ∷ 0 ∷ 2 ∷ 0 ∷ [])
+      ∷ left 0 (3 ∷ 50331648 ∷ 0 ∷ 3 ∷ []) [] (1 ∷ 50331648 ∷ 1 ∷ 33554432 ∷ 0 ∷ 1 ∷ 0 ∷ [])
+      ∷ left 6 (2 ∷ 16777215 ∷ 0 ∷ 0 ∷ []) [] (0 ∷ 0 ∷ 0 ∷ 0 ∷ 0 ∷ 0 ∷ 0 ∷ [])
+      ∷ []
+  pub judged : map (λ (o : ℕ). judge-leaves (stating 2) (1 ∷ 1 ∷ 16777215 ∷ 0 ∷ []) store (0x50 ∷ 0x83 ∷ 0 ∷ 0 ∷ 0 ∷ o ∷ 0x07 ∷ 0xFE ∷ rest)) (0x41 ∷ 0x40 ∷ 0x01 ∷ [])
+      ≡ left 0 (1 ∷ 2 ∷ 16777216 ∷ 0 ∷ []) store [] ∷ left 0 (2 ∷ 2 ∷ 1 ∷ 0 ∷ []) store [] ∷ left 0 (2 ∷ 2 ∷ 1 ∷ 0 ∷ []) store [] ∷ []
+  pub written : write-leaves (bits-stating 2) (16777216 ∷ []) (0xAB ∷ []) 8 (lent 10)
+      ≡ left 0 (16777217 ∷ []) (0x50 ∷ 0x83 ∷ 0 ∷ 0 ∷ 0 ∷ 0x41 ∷ 0x00 ∷ 0x07 ∷ 0xAB ∷ 0x55 ∷ []) []
+  pub read : map (λ (o : ℕ). read-leaves (bits-stating 2) (1 ∷ 268435455 ∷ 0 ∷ []) (0x50 ∷ 0x83 ∷ 0 ∷ 0 ∷ 0 ∷ o ∷ 0x00 ∷ 0x07 ∷ lent 2) (lent 6)) (0x40 ∷ 0x41 ∷ 0x00 ∷ [])
+      ≡ left 0 (1 ∷ 0 ∷ 0 ∷ []) [] (0 ∷ 0 ∷ 0 ∷ 8 ∷ 8 ∷ 1 ∷ [])
+      ∷ left 0 (1 ∷ 16777216 ∷ 0 ∷ []) [] (16777216 ∷ 0 ∷ 1 ∷ 8 ∷ 8 ∷ 1 ∷ [])
+      ∷ left 6 (1 ∷ 268435455 ∷ 0 ∷ []) [] (0 ∷ 0 ∷ 0 ∷ 0 ∷ 0 ∷ 0 ∷ [])
+      ∷ []
+  -- with usage 0 the same numbers are those of 701.0-B-2
+  pub unused : map (λ (n : ℕ). mux-leaves to-flush 1 flush-numbers (stating n) (16777215 ∷ 8 ∷ 0 ∷ 0 ∷ []) (lent 18) (lent 1)) (0 ∷ 1 ∷ [])
+      ≡ replicate 2 (left 0 (0 ∷ 0 ∷ 2047 ∷ 0 ∷ []) (0x50 ∷ 0x83 ∷ 0xFF ∷ 0xFF ∷ 0xFF ∷ 0x00 ∷ 0 ∷ 0 ∷ (lent 8 ++ (0xE1 ∷ 0x02 ∷ []))) (2 ∷ []))
+
 pub record InC : Type 0 where
   pub short : Short
   pub outside : Outside
@@ -349,3 +386,4 @@ pub record InC : Type 0 where
   pub bits : Bits
   pub relay : Relay
   pub trailers : Trailers
+  pub editions : Editions

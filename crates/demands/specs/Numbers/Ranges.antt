@@ -11,6 +11,8 @@ use Rattle.wrapping.specs.Wrap.{wrapping}
 use Rattle.packets.specs.Unwrap.{unwrapping}
 use Rattle.frames.specs.Frame.{in-range, heading, head-rows}
 use Rattle.frames.specs.BitFrame.{bits-in-range, bit-heading, bit-head-rows}
+use Rattle.frames.specs.Editions.{settings-by, bit-settings-by}
+use Rattle.frames.specs.declared.Edition.{Edition}
 use Rattle.frames.specs.declared.Settings.{Settings}
 use Rattle.frames.specs.declared.bits.BitSettings.{BitSettings}
 use Rattle.multiplexer.specs.Multiplex.{begun}
@@ -71,9 +73,11 @@ pub record Edges : Type 0 where
   pub bits-in : map bit-calls (set-bits 0 0 1 ∷ set-bits 255 62 2047 ∷ []) ≡ replicate 2 (2 ∷ 2 ∷ 3 ∷ 3 ∷ [])
   pub bits-out : map bit-calls (set-bits 0 0 0 ∷ set-bits 0 0 2048 ∷ set-bits 256 0 1 ∷ set-bits 0 63 1 ∷ []) ≡ replicate 4 (1 ∷ 1 ∷ 1 ∷ 1 ∷ [])
   pub bit-tests : map bits-in-range (set-bits 0 0 1 ∷ set-bits 0 0 2047 ∷ set-bits 0 0 0 ∷ set-bits 0 0 2048 ∷ []) ≡ true ∷ true ∷ false ∷ false ∷ []
-  -- the trailer's setting has no part in it
+  -- the trailer's setting and the edition have no part in it
   pub trailers : (s : Settings) (on : Bool) → in-range (trailing on s) ≡ in-range s
   pub bit-trailers : (s : BitSettings) (on : Bool) → bits-in-range (bit-trailing on s) ≡ bits-in-range s
+  pub editions : (s : Settings) (e : Edition) → in-range (settings-by e s) ≡ in-range s
+  pub bit-editions : (s : BitSettings) (e : Edition) → bits-in-range (bit-settings-by e s) ≡ bits-in-range s
   pub limits : map limit-calls (7 ∷ 65542 ∷ 6 ∷ 65543 ∷ []) ≡ (0 ∷ 8 ∷ 8 ∷ []) ∷ (0 ∷ 8 ∷ 8 ∷ []) ∷ (1 ∷ 1 ∷ 1 ∷ []) ∷ (1 ∷ 1 ∷ 1 ∷ []) ∷ []
   pub formed : map (λ limit. and (limit-in-range limit) (well-formed limit (0xE0 ∷ []))) (7 ∷ 65542 ∷ 6 ∷ 65543 ∷ []) ≡ true ∷ true ∷ false ∷ false ∷ []
   -- protocol 1 to 7; extension to 15 with protocol 6, and else 0; again nothing at all is refused by 8

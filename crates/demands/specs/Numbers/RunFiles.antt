@@ -1,9 +1,11 @@
 -- The run file: its kinds, its setup, its limit of 4,096 and its bad records.
 use Prim.Native.Nat.{ℕ}
 use mathlib.Core.Path.{_≡_}
-use mathlib.Core.Bool.{true, false}
+use mathlib.Core.Bool.{Bool, true, false}
 use mathlib.Core.List.{List, [], _∷_, _++_, map}
 use mathlib.Core.Option.{Option, none, some}
+use Rattle.frames.specs.declared.Edition.{Edition}
+use Rattle.frames.specs.declared.Edition.the-variants.{Former, CycleUnused, CycleUsed}
 use Rattle.frames.specs.declared.Settings.{Settings}
 use Rattle.runfile.specs.RunFile.{reading, run-file}
 use Rattle.runfile.specs.Steps.{body-length, taken, closed}
@@ -13,7 +15,7 @@ use Rattle.demands.specs.Numbers.Samples.{lent}
 
 -- the settings that a setup has
 abbrev pub set : ℕ → ℕ → ℕ → ℕ → Settings
-set spacecraft channel zone limit = record { link = record { spacecraft = spacecraft; channel = channel; trailed = false }; zone = zone; limit = limit; fill = 0 }
+set spacecraft channel zone limit = record { link = record { spacecraft = spacecraft; channel = channel; trailed = false; edition = Former }; zone = zone; limit = limit; fill = 0 }
 
 -- the setup of the sample run, and the progress of its reader after so many frames
 abbrev pub setup : List ℕ
@@ -22,9 +24,9 @@ setup = 0x42 ∷ 0x03 ∷ 0x00 ∷ 0x0A ∷ 0x00 ∷ 0x04 ∷ 0x00 ∷ []
 abbrev pub running : ℕ → Progress
 running frames = Running (set 66 3 10 1024) frames
 
--- the same with trailers
-abbrev pub with-trailers : Progress
-with-trailers = Running (record { link = record { spacecraft = 66; channel = 3; trailed = true }; zone = 10; limit = 1024; fill = 0 }) 0
+-- the same with trailers, and at another edition
+abbrev pub with-others : Bool → Edition → Progress
+with-others on e = Running (record { link = record { spacecraft = 66; channel = 3; trailed = on; edition = e }; zone = 10; limit = 1024; fill = 0 }) 0
 
 -- a run of one frame
 abbrev pub one-frame : List ℕ
@@ -38,8 +40,9 @@ pub record Records : Type 0 where
   -- each field of the setup at its place, and 4,096 at most
   pub setups : map (taken Start 1) (setup ∷ (0xFF ∷ 0x3E ∷ 0x07 ∷ 0xFE ∷ 0x00 ∷ 0x10 ∷ 0x00 ∷ []) ∷ (0 ∷ 0 ∷ 0x00 ∷ 0x01 ∷ 0x00 ∷ 0x10 ∷ 0x01 ∷ []) ∷ (0 ∷ 0 ∷ 0x00 ∷ 0x01 ∷ 0x01 ∷ 0x00 ∷ 0x07 ∷ []) ∷ [])
       ≡ running 0 ∷ Running (set 255 62 2046 4096) 0 ∷ Bad 0 ∷ Bad 0 ∷ []
-  -- a setup has no place for a trailer, so that no file leads to one
-  pub no-trailer : body-length with-trailers 2 ≡ 0
+  -- a setup has no place for a trailer or another edition, so that no file leads to one
+  pub no-trailer : map (λ on. body-length (with-others on Former) 2) (false ∷ true ∷ []) ≡ 18 ∷ 0 ∷ []
+  pub no-edition : map (λ e. body-length (with-others false e) 2) (Former ∷ CycleUnused ∷ CycleUsed ∷ []) ≡ 18 ∷ 0 ∷ 0 ∷ []
   -- the kinds 1, 2 and 3 in their order, and how many octets of body each has; any other is bad
   pub bodies : map (body-length Start) (1 ∷ 2 ∷ 3 ∷ []) ++ map (body-length (running 0)) (1 ∷ 2 ∷ 3 ∷ []) ≡ 7 ∷ 0 ∷ 0 ∷ 0 ∷ 18 ∷ 0 ∷ []
   pub first : map (λ kind. taken Start kind setup) (0 ∷ 1 ∷ 2 ∷ 3 ∷ []) ≡ Bad 0 ∷ running 0 ∷ Bad 0 ∷ Bad 0 ∷ []

@@ -1,18 +1,21 @@
 -- The settings, frames and packets that the examples are made of.
-use Prim.Native.Nat.{ℕ}
+use Prim.Native.Nat.{ℕ, zero, suc}
 use mathlib.Core.List.{List, [], _∷_, map}
 use mathlib.Core.Bool.{Bool, true, false}
 use lib.ListN.{replicate}
+use Rattle.frames.specs.Editions.{settings-by, bit-settings-by}
+use Rattle.frames.specs.declared.Edition.{Edition}
+use Rattle.frames.specs.declared.Edition.the-variants.{Former}
 use Rattle.frames.specs.declared.Settings.{Settings}
 use Rattle.frames.specs.declared.bits.BitSettings.{BitSettings}
 
 -- settings of a packet channel by spacecraft, channel, Z and M, and of a bitstream channel by spacecraft, channel and W
 abbrev pub set : ℕ → ℕ → ℕ → ℕ → Settings
 set spacecraft channel zone limit =
-    record { link = record { spacecraft = spacecraft; channel = channel; trailed = false }; zone = zone; limit = limit; fill = 0x55 }
+    record { link = record { spacecraft = spacecraft; channel = channel; trailed = false; edition = Former }; zone = zone; limit = limit; fill = 0x55 }
 
 abbrev pub set-bits : ℕ → ℕ → ℕ → BitSettings
-set-bits spacecraft channel width = record { link = record { spacecraft = spacecraft; channel = channel; trailed = false }; width = width; fill = 0x55 }
+set-bits spacecraft channel width = record { link = record { spacecraft = spacecraft; channel = channel; trailed = false; edition = Former }; width = width; fill = 0x55 }
 
 -- spacecraft 66, channel 3, Z = 10, M = 12; the same with Z = 0; and the least zone and limit
 abbrev pub small : Settings
@@ -31,14 +34,21 @@ two-octets = set-bits 66 3 2
 abbrev pub no-octets : BitSettings
 no-octets = set-bits 66 3 0
 
+-- both at each edition
+abbrev pub small-by : Edition → Settings
+small-by e = settings-by e small
+
+abbrev pub two-by : Edition → BitSettings
+two-by e = bit-settings-by e two-octets
+
 -- the same settings with trailers, and without
 abbrev pub trailing : Bool → Settings → Settings
 trailing on s =
-    record { link = record { spacecraft = s .link .spacecraft; channel = s .link .channel; trailed = on }; zone = s .zone; limit = s .limit; fill = s .fill }
+    record { link = record { spacecraft = s .link .spacecraft; channel = s .link .channel; trailed = on; edition = s .link .edition }; zone = s .zone; limit = s .limit; fill = s .fill }
 
 abbrev pub bit-trailing : Bool → BitSettings → BitSettings
 bit-trailing on s =
-    record { link = record { spacecraft = s .link .spacecraft; channel = s .link .channel; trailed = on }; width = s .width; fill = s .fill }
+    record { link = record { spacecraft = s .link .spacecraft; channel = s .link .channel; trailed = on; edition = s .link .edition }; width = s .width; fill = s .fill }
 
 -- both with trailers
 abbrev pub small-trailed : Settings
@@ -71,6 +81,11 @@ ten = 0x00 ∷ 0x05 ∷ 0xC0 ∷ 0x00 ∷ 0x00 ∷ 0x03 ∷ 0xA1 ∷ 0xA2 ∷ 0x
 
 abbrev pub seven : List ℕ
 seven = 0x00 ∷ 0x05 ∷ 0xC0 ∷ 0x00 ∷ 0x00 ∷ 0x00 ∷ 0xA1 ∷ []
+
+-- so many numbers from n on
+abbrev pub from : ℕ → ℕ → List ℕ
+from n zero = []
+from n (suc k) = n ∷ from (suc n) k
 
 -- the same for each of a list
 abbrev pub each : {A B : Type 0} → List A → B → List B

@@ -1,13 +1,14 @@
 -- What the public functions of `frames` promise.
-use Prim.Native.Nat.{ℕ}
+use Prim.Native.Nat.{ℕ, _^_}
 use mathlib.Core.List.{List}
 use lib.Dec.{ltb, eqb}
 use contract.Lifetimes.{Lfts}
 use denote.Ref.{now, at-last}
 use Rattle.octets.specs.Basics.{over, Row}
-use Rattle.frames.specs.Link.{missing}
+use Rattle.frames.specs.Link.{count-width, next-count, missing}
 use Rattle.frames.specs.Frame.{in-range, frame-length, heading-rows, heading, head, head-rows}
 use Rattle.frames.specs.BitFrame.{bits-in-range, bit-frame-length, bit-heading-rows, bit-heading, bit-head, bit-head-rows}
+use Rattle.frames.specs.declared.Link.{Link}
 use Rattle.frames.specs.declared.Settings.{Settings}
 use Rattle.frames.specs.declared.bits.BitSettings.{BitSettings}
 use Rattle.frames.specs.declared.Heading.{Heading}
@@ -15,6 +16,8 @@ use Rattle.frames.proofs.in_range.Reads as in-range-fn
 use Rattle.frames.proofs.has_length.Reads as has-length-fn
 use Rattle.frames.proofs.is_short.Reads as is-short-fn
 use Rattle.frames.proofs.read_head.Reads as read-head-fn
+use Rattle.frames.proofs.wheel_of.Reads as wheel-of-fn
+use Rattle.frames.proofs.next_count.Reads as next-count-fn
 use Rattle.frames.proofs.missing.Reads as missing-fn
 use Rattle.frames.proofs.write_head.Reads as write-head-fn
 use Rattle.frames.proofs.bits.in_range.Reads as bits-in-range-fn
@@ -35,8 +38,11 @@ pub record OfFrames : Type 0 where
       → Is (as-read (has-length-fn.Pre tt (s, (len, tt))) (λ r. has-length-fn.Post tt (s, (len, tt)) r (s, (len, tt)))) (eqb len (frame-length s))
   pub is-short : (s : Settings) (len : ℕ)
       → Is (as-read (is-short-fn.Pre tt (s, (len, tt))) (λ r. is-short-fn.Post tt (s, (len, tt)) r (s, (len, tt)))) (ltb len (frame-length s))
-  pub missing : (c last : ℕ)
-      → Is (as-read (missing-fn.Pre tt (c, (last, tt))) (λ r. missing-fn.Post tt (c, (last, tt)) r (c, (last, tt)))) (missing 24 last c)
+  pub wheel-of : (l : Link) → Is (as-read (wheel-of-fn.Pre tt (l, tt)) (λ r. wheel-of-fn.Post tt (l, tt) r (l, tt))) (2 ^ count-width l)
+  pub next-count : (l : Link) (c : ℕ)
+      → Is (as-read (next-count-fn.Pre tt (l, (c, tt))) (λ r. next-count-fn.Post tt (l, (c, tt)) r (l, (c, tt)))) (next-count (count-width l) c)
+  pub missing : (l : Link) (last c : ℕ)
+      → Is (as-read (missing-fn.Pre tt (l, (last, (c, tt)))) (λ r. missing-fn.Post tt (l, (last, (c, tt))) r (l, (last, (c, tt))))) (missing (count-width l) last c)
   pub read-head : (κs : Lfts 1) (s : Settings) (f : Slice)
       → Reads (as-read (read-head-fn.Pre κs (s, (f, tt))) (λ r. read-head-fn.Post κs (s, (f, tt)) r (s, (f, tt)))) (heading-rows s (now f)) (heading s (now f))
   pub write-head : (κs : Lfts 1) (s : Settings) (c p : ℕ) (buf : Slice)
