@@ -85,8 +85,9 @@ enum itz_refusal {
     ITZ_REFUSED_LENGTH = 3,   /* a frame to be read does not have exactly its length */
     ITZ_REFUSED_VERSION = 4,  /* the frame's version is not 01 */
     ITZ_REFUSED_CHANNEL = 5,  /* the frame is of another spacecraft or channel */
-    ITZ_REFUSED_SPARE = 6,    /* a spare bit is 1; or, unwrapping, an extension without
-                                 protocol 6 or a reserved field that is not 0 */
+    ITZ_REFUSED_SPARE = 6,    /* a spare bit is 1; the usage of the count is not the one that is
+                                 set, or is 0 and the cycle is not; or, unwrapping, an extension
+                                 without protocol 6 or a reserved field that is not 0 */
     ITZ_REFUSED_POINTER = 7,  /* the frame's pointer is one that cannot be */
     ITZ_REFUSED_PACKET = 8,   /* a lent packet is not well formed, or is a space packet and to be
                                  unwrapped; a data unit is empty or would pass the limit when
@@ -125,6 +126,25 @@ enum itz_damage {
  * X^16 + X^12 + X^5 + 1 and with the register preset to ones, high octet first.
  */
 
+/*
+ * The edition. A setting says which edition of the standard the frames of a
+ * channel follow, and so what the signalling octet says, the one behind the three
+ * of the count. Its first bit is the replay flag. In CCSDS 701.0-B-2 the other
+ * seven are spare. In CCSDS 732.0-B-3 they are the usage of the count, 1 bit, 2
+ * spare bits, and the cycle of the count, 4 bits: with usage 1 the cycle stands
+ * above the 24 bits of the count, and the two are one count of 28 bits; with
+ * usage 0 it is 0, and the frames are to the octet those of CCSDS 701.0-B-2.
+ *
+ * A count is below 2^24, and below 2^28 with ITZ_EDITION_CYCLE_USED, as it is
+ * written and read, and in a record, where any other is refused (10). After the
+ * greatest comes 0.
+ */
+enum itz_edition {
+    ITZ_EDITION_FORMER = 0,        /* CCSDS 701.0-B-2 */
+    ITZ_EDITION_CYCLE_UNUSED = 1,  /* CCSDS 732.0-B-3 with usage 0 */
+    ITZ_EDITION_CYCLE_USED = 2     /* CCSDS 732.0-B-3 with usage 1 */
+};
+
 /* Settings of a channel that carries packets. */
 enum {
     ITZ_SETTINGS_SPACECRAFT,  /* 0 to 255 */
@@ -135,6 +155,7 @@ enum {
                                  `zone` to 65542 */
     ITZ_SETTINGS_FILL,        /* the octet that fills idle space, 0 to 255 */
     ITZ_SETTINGS_TRAILER,     /* 1 where the frames end with a trailer, 0 where they do not */
+    ITZ_SETTINGS_EDITION,     /* one of enum itz_edition */
     ITZ_SETTINGS_NUMBERS
 };
 
@@ -146,6 +167,7 @@ enum {
                                      and width + 10 with a trailer */
     ITZ_BIT_SETTINGS_FILL,        /* the octet whose bits fill the rest of a zone, 0 to 255 */
     ITZ_BIT_SETTINGS_TRAILER,     /* 1 where the frames end with a trailer, 0 where they do not */
+    ITZ_BIT_SETTINGS_EDITION,     /* one of enum itz_edition */
     ITZ_BIT_SETTINGS_NUMBERS
 };
 
@@ -307,7 +329,7 @@ ITZ_CALL uint64_t itz_write_space(const uint64_t *header, size_t header_len,
  * zone is full.
  */
 enum {
-    ITZ_MUX_COUNT,   /* of the frame in work, below 2^24 */
+    ITZ_MUX_COUNT,   /* of the frame in work, below 2^24 or 2^28 by the edition */
     ITZ_MUX_FILLED,  /* octets of its zone that are laid */
     ITZ_MUX_FIRST,   /* place in the zone of the first packet start, 2047 while none */
     ITZ_MUX_TAKEN,   /* octets of a packet begun in an earlier zone that were taken */
@@ -378,9 +400,10 @@ ITZ_CALL uint64_t itz_mux_idle(const uint64_t *settings, size_t settings_len,
 enum {
     ITZ_EXTRACTOR_KIND,  /* 0 fresh, 1 out of step, 2 in step; and between entering a frame and
                             its spent step 3 walking, 4 leaving */
-    ITZ_EXTRACTOR_LAST,  /* count of the last frame entered   (kinds 1, 2, 3, 4) */
-    ITZ_EXTRACTOR_HELD,  /* octets held in the store          (kinds 2, 3) */
-    ITZ_EXTRACTOR_AT,    /* place of the walk in the zone     (kind 3) */
+    ITZ_EXTRACTOR_LAST,  /* count of the last frame entered, below 2^24 or 2^28 by the edition
+                            (kinds 1, 2, 3, 4) */
+    ITZ_EXTRACTOR_HELD,  /* octets held in the store (kinds 2, 3) */
+    ITZ_EXTRACTOR_AT,    /* place of the walk in the zone (kind 3) */
     ITZ_EXTRACTOR_NUMBERS
 };
 
@@ -396,7 +419,8 @@ enum {
     ITZ_ENTERED_WHAT,     /* ITZ_ENTERED */
     ITZ_ENTERED_COUNT,    /* the frame's count */
     ITZ_ENTERED_REPLAY,   /* its replay flag */
-    ITZ_ENTERED_LOST,     /* frames missing between the last one and this */
+    ITZ_ENTERED_LOST,     /* frames missing between the last one and this: count - last - 1, modulo
+                             2^24 or 2^28 by the edition; 0 for the first frame */
     ITZ_ENTERED_DROPPED,  /* held octets that were dropped */
     ITZ_ENTERED_REASON,   /* why the frame does not go on from what came before */
     ITZ_ENTERED_DAMAGE,   /* with ITZ_REASON_DAMAGED what is wrong with that header, else 0; it is
@@ -478,9 +502,9 @@ ITZ_CALL uint64_t itz_show(const uint64_t *step, size_t step_len,
 /* The judge's record, which starts as ITZ_JUDGE_START. */
 enum {
     ITZ_JUDGE_KIND,   /* 0 no frame yet, 1 sound so far, 2 faulty */
-    ITZ_JUDGE_TALLY,  /* frames taken, 1 to 2^24 (kinds 1, 2) */
-    ITZ_JUDGE_LAST,   /* count of the last frame (kind 1); index of the first faulty frame,
-                         from 0 (kind 2) */
+    ITZ_JUDGE_TALLY,  /* frames taken, 1 to 2^24 whatever the edition (kinds 1, 2) */
+    ITZ_JUDGE_LAST,   /* count of the last frame, below 2^24 or 2^28 by the edition (kind 1);
+                         index of the first faulty frame, from 0 (kind 2) */
     ITZ_JUDGE_HELD,   /* octets held in the store (kind 1) */
     ITZ_JUDGE_NUMBERS
 };
@@ -524,7 +548,7 @@ ITZ_CALL uint64_t itz_judge_close(const uint64_t *settings, size_t settings_len,
 
 /* The record of a writer of bits, which starts as ITZ_BIT_WRITER_START. */
 enum {
-    ITZ_BIT_WRITER_COUNT,  /* of the next frame, below 2^24 */
+    ITZ_BIT_WRITER_COUNT,  /* of the next frame, below 2^24 or 2^28 by the edition */
     ITZ_BIT_WRITER_NUMBERS
 };
 
@@ -546,7 +570,8 @@ ITZ_CALL uint64_t itz_bits_write(const uint64_t *settings, size_t settings_len,
 /* The record of a reader of bits, which starts as ITZ_BIT_READER_START. */
 enum {
     ITZ_BIT_READER_KIND,     /* 0 no frame yet, 1 a frame was read */
-    ITZ_BIT_READER_LAST,     /* count of the last frame read (kind 1) */
+    ITZ_BIT_READER_LAST,     /* count of the last frame read, below 2^24 or 2^28 by the edition
+                                (kind 1) */
     ITZ_BIT_READER_WAITING,  /* 1 when a loss waits to be told with bits, else 0 (kind 1) */
     ITZ_BIT_READER_NUMBERS
 };

@@ -2,7 +2,8 @@
  * The names of include/itzahuemo.h against the library: every refusal, every
  * outcome and every entry of an array is met by a call and has its name's number.
  * An array of exactly the named number of entries is long enough, and a shorter
- * one is refused; an answer is not written then.
+ * one is refused; an answer is not written then. Counts are written and read at
+ * every edition, and held to its width in every record.
  */
 #include "itzahuemo.h"
 
@@ -48,6 +49,8 @@ static void each_is(const uint64_t *entries, size_t count, uint64_t number)
 
 static const uint8_t space[] = {0x10, 0x05, 0x80, 0x09, 0x00, 0x01, 0xAA, 0xBB};
 static const uint8_t wrapped[] = {0xFA, 0x05, 0x00, 0x06, 0xDD, 0xEE};
+static const uint8_t encapsulation[] = {0xE9, 0x05, 0x11, 0x22, 0x33};
+static const uint8_t four_bits[] = {0x70};
 
 static uint64_t settings[ITZ_SETTINGS_NUMBERS];
 static uint64_t bit_settings[ITZ_BIT_SETTINGS_NUMBERS];
@@ -61,11 +64,13 @@ static void set(void)
     settings[ITZ_SETTINGS_LIMIT] = LIMIT;
     settings[ITZ_SETTINGS_FILL] = 0x55;
     settings[ITZ_SETTINGS_TRAILER] = 0;
+    settings[ITZ_SETTINGS_EDITION] = ITZ_EDITION_FORMER;
     bit_settings[ITZ_BIT_SETTINGS_SPACECRAFT] = 66;
     bit_settings[ITZ_BIT_SETTINGS_CHANNEL] = 3;
     bit_settings[ITZ_BIT_SETTINGS_WIDTH] = WIDTH;
     bit_settings[ITZ_BIT_SETTINGS_FILL] = 0x55;
     bit_settings[ITZ_BIT_SETTINGS_TRAILER] = 0;
+    bit_settings[ITZ_BIT_SETTINGS_EDITION] = ITZ_EDITION_FORMER;
 }
 
 static void packets(void)
@@ -212,10 +217,15 @@ static uint64_t enter(void)
     return itz_extractor_enter(ARRAY(settings), ARRAY(extractor), SIZED(store), SIZED(frame), ARRAY(entered));
 }
 
+static uint64_t take_step(void)
+{
+    return itz_extractor_step(ARRAY(settings), ARRAY(extractor), SIZED(store), SIZED(frame), ARRAY(step));
+}
+
 /* A step in the frame: what it finds, and where. */
 static void finds(uint64_t what, uint64_t place, uint64_t start, uint64_t size)
 {
-    IS(itz_extractor_step(ARRAY(settings), ARRAY(extractor), SIZED(store), SIZED(frame), ARRAY(step)), ITZ_ACCEPTED);
+    IS(take_step(), ITZ_ACCEPTED);
     IS(step[ITZ_STEP_WHAT], what);
     IS(step[ITZ_STEP_PLACE], place);
     IS(step[ITZ_STEP_START], start);
@@ -456,15 +466,14 @@ static void judging(void)
 
 static void bits(void)
 {
-    static const uint8_t octets[] = {0x70};
     uint64_t writer[ITZ_BIT_WRITER_NUMBERS] = ITZ_BIT_WRITER_START;
     uint64_t reader[ITZ_BIT_READER_NUMBERS] = ITZ_BIT_READER_START;
     uint64_t read[ITZ_BITS_NUMBERS];
     uint8_t bit_frame[BIT_FRAME];
 
-    IS(itz_bits_write(SHORT(bit_settings), ARRAY(writer), SIZED(octets), 4, SIZED(bit_frame)), ITZ_REFUSED_ROOM);
-    IS(itz_bits_write(ARRAY(bit_settings), SHORT(writer), SIZED(octets), 4, SIZED(bit_frame)), ITZ_REFUSED_ROOM);
-    IS(itz_bits_write(ARRAY(bit_settings), ARRAY(writer), SIZED(octets), 4, SIZED(bit_frame)), ITZ_ACCEPTED);
+    IS(itz_bits_write(SHORT(bit_settings), ARRAY(writer), SIZED(four_bits), 4, SIZED(bit_frame)), ITZ_REFUSED_ROOM);
+    IS(itz_bits_write(ARRAY(bit_settings), SHORT(writer), SIZED(four_bits), 4, SIZED(bit_frame)), ITZ_REFUSED_ROOM);
+    IS(itz_bits_write(ARRAY(bit_settings), ARRAY(writer), SIZED(four_bits), 4, SIZED(bit_frame)), ITZ_ACCEPTED);
     IS(bit_frame[8], 0x75);
     IS(writer[ITZ_BIT_WRITER_COUNT], 1);
     bit_frame[5] = 0x80;
@@ -532,7 +541,6 @@ static uint64_t enter_longer(const uint8_t *longer)
 /* The sample's first frame with its trailer: written, refused, judged and entered. */
 static void trailers(void)
 {
-    static const uint8_t encapsulation[] = {0xE9, 0x05, 0x11, 0x22, 0x33};
     uint64_t mux[ITZ_MUX_NUMBERS], put[ITZ_PUT_NUMBERS];
     uint64_t record[ITZ_JUDGE_NUMBERS] = ITZ_JUDGE_START, faulty[ITZ_JUDGE_NUMBERS] = ITZ_JUDGE_START;
     uint8_t longer[FRAME + TRAILER];
@@ -579,17 +587,16 @@ static void trailers(void)
 
 static void bit_trailers(void)
 {
-    static const uint8_t octets[] = {0x70};
     uint64_t writer[ITZ_BIT_WRITER_NUMBERS] = ITZ_BIT_WRITER_START;
     uint64_t reader[ITZ_BIT_READER_NUMBERS] = ITZ_BIT_READER_START;
     uint64_t read[ITZ_BITS_NUMBERS];
     uint8_t longer[BIT_FRAME + TRAILER];
 
     bit_settings[ITZ_BIT_SETTINGS_TRAILER] = 2;
-    IS(itz_bits_write(ARRAY(bit_settings), ARRAY(writer), SIZED(octets), 4, SIZED(longer)), ITZ_REFUSED_SETTING);
+    IS(itz_bits_write(ARRAY(bit_settings), ARRAY(writer), SIZED(four_bits), 4, SIZED(longer)), ITZ_REFUSED_SETTING);
     bit_settings[ITZ_BIT_SETTINGS_TRAILER] = 1;
-    IS(itz_bits_write(ARRAY(bit_settings), ARRAY(writer), SIZED(octets), 4, SHORT(longer)), ITZ_REFUSED_ROOM);
-    IS(itz_bits_write(ARRAY(bit_settings), ARRAY(writer), SIZED(octets), 4, SIZED(longer)), ITZ_ACCEPTED);
+    IS(itz_bits_write(ARRAY(bit_settings), ARRAY(writer), SIZED(four_bits), 4, SHORT(longer)), ITZ_REFUSED_ROOM);
+    IS(itz_bits_write(ARRAY(bit_settings), ARRAY(writer), SIZED(four_bits), 4, SIZED(longer)), ITZ_ACCEPTED);
     IS(longer[BIT_FRAME], 0x31);
     IS(longer[BIT_FRAME + 1], 0xEF);
     IS(itz_bits_read(ARRAY(bit_settings), ARRAY(reader), longer, BIT_FRAME, ARRAY(read)), ITZ_REFUSED_LENGTH);
@@ -603,6 +610,405 @@ static void bit_trailers(void)
     IS(itz_bits_read(ARRAY(bit_settings), ARRAY(reader), SIZED(longer), ARRAY(read)), ITZ_ACCEPTED);
     IS(read[ITZ_BITS_VALID], 4);
     IS(read[ITZ_BITS_START], 8);
+    set();
+}
+
+#define EDITIONS 3
+
+/* How many counts each edition has. */
+static const uint64_t wheels[EDITIONS] = {0x1000000, 0x1000000, 0x10000000};
+
+static void set_edition(uint64_t edition)
+{
+    settings[ITZ_SETTINGS_EDITION] = bit_settings[ITZ_BIT_SETTINGS_EDITION] = edition;
+}
+
+static uint8_t bit_frame[BIT_FRAME];
+
+/* The sample's first frame and a frame of four bits, both with these octets of the count and this signalling octet behind them. */
+static void lay_octets(const uint8_t *octets)
+{
+    static const uint8_t four[BIT_FRAME] = {0x50, 0x83, 0, 0, 0, 0, 0x00, 0x03, 0x75, 0x55};
+    sample(frame, 0, 0, 0x50);
+    memcpy(bit_frame, four, BIT_FRAME);
+    memcpy(frame + 2, octets, 4);
+    memcpy(bit_frame + 2, octets, 4);
+}
+
+/* The same, with a count as the edition has it. */
+static void lay_count(uint64_t edition, uint64_t count)
+{
+    uint8_t octets[4] = {(uint8_t)(count >> 16), (uint8_t)(count >> 8), (uint8_t)count, 0};
+    if (edition == ITZ_EDITION_CYCLE_USED)
+        octets[3] = (uint8_t)(0x40 | count >> 24);
+    lay_octets(octets);
+}
+
+/* What the calls write for a count: the frame to the octet. */
+static void frame_is(const uint8_t *octets, uint8_t high, uint8_t low, const uint8_t *zone)
+{
+    IS(frame[0], 0x50);
+    IS(frame[1], 0x83);
+    HOLDS(memcmp(frame + 2, octets, 4) == 0);
+    IS(frame[6], high);
+    IS(frame[7], low);
+    HOLDS(memcmp(frame + 8, zone, ZONE) == 0);
+}
+
+/* A count as each call writes it, and the count that is then in the record. */
+static void writes(uint64_t edition, uint64_t count, const uint8_t *octets, uint64_t next)
+{
+    static const uint8_t filled[ZONE] = {0x10, 0x05, 0x80, 0x09, 0x00, 0x01, 0xAA, 0xBB, 0xFA, 0x05};
+    static const uint8_t closed[ZONE] = {0x10, 0x05, 0x80, 0x09, 0x00, 0x01, 0xAA, 0xBB, 0xE1, 0x02};
+    static const uint8_t idle[ZONE] = {0x55, 0x55, 0x55, 0x55, 0x55, 0x55, 0x55, 0x55, 0x55, 0x55};
+    uint64_t mux[ITZ_MUX_NUMBERS], put[ITZ_PUT_NUMBERS], flushed[ITZ_FLUSH_NUMBERS];
+    uint64_t writer[ITZ_BIT_WRITER_NUMBERS];
+    uint8_t written[BIT_FRAME];
+
+    set_edition(edition);
+    IS(itz_mux_begin(ARRAY(mux)), ITZ_ACCEPTED);
+    mux[ITZ_MUX_COUNT] = count;
+    IS(itz_mux_put(ARRAY(settings), ARRAY(mux), SIZED(space), SIZED(frame), ARRAY(put)), ITZ_ACCEPTED);
+    IS(mux[ITZ_MUX_COUNT], count);
+    IS(itz_mux_put(ARRAY(settings), ARRAY(mux), SIZED(wrapped), SIZED(frame), ARRAY(put)), ITZ_ACCEPTED);
+    IS(put[ITZ_PUT_FULL], 1);
+    frame_is(octets, 0x00, 0x00, filled);
+    IS(mux[ITZ_MUX_COUNT], next);
+
+    IS(itz_mux_begin(ARRAY(mux)), ITZ_ACCEPTED);
+    mux[ITZ_MUX_COUNT] = count;
+    IS(itz_mux_put(ARRAY(settings), ARRAY(mux), SIZED(space), SIZED(frame), ARRAY(put)), ITZ_ACCEPTED);
+    IS(itz_mux_flush(ARRAY(settings), ARRAY(mux), SIZED(frame), ARRAY(flushed)), ITZ_ACCEPTED);
+    IS(flushed[ITZ_FLUSH_WHAT], ITZ_FLUSH_FRAME);
+    frame_is(octets, 0x00, 0x00, closed);
+    IS(mux[ITZ_MUX_COUNT], next);
+
+    mux[ITZ_MUX_COUNT] = count;
+    IS(itz_mux_idle(ARRAY(settings), ARRAY(mux), SIZED(frame)), ITZ_ACCEPTED);
+    frame_is(octets, 0x07, 0xFE, idle);
+    IS(mux[ITZ_MUX_COUNT], next);
+
+    writer[ITZ_BIT_WRITER_COUNT] = count;
+    IS(itz_bits_write(ARRAY(bit_settings), ARRAY(writer), SIZED(four_bits), 4, SIZED(written)), ITZ_ACCEPTED);
+    lay_octets(octets);
+    HOLDS(memcmp(written, bit_frame, BIT_FRAME) == 0);
+    IS(writer[ITZ_BIT_WRITER_COUNT], next);
+}
+
+/* The laid frames as each call reads them: refused, or with this count and replay flag. */
+static void reads(uint64_t edition, uint64_t refusal, uint64_t count, uint64_t replay)
+{
+    uint64_t record[ITZ_JUDGE_NUMBERS] = ITZ_JUDGE_START, reader[ITZ_BIT_READER_NUMBERS] = ITZ_BIT_READER_START;
+    uint64_t read[ITZ_BITS_NUMBERS];
+
+    set_edition(edition);
+    begin();
+    IS(enter(), refusal);
+    IS(itz_bits_read(ARRAY(bit_settings), ARRAY(reader), SIZED(bit_frame), ARRAY(read)), refusal);
+    IS(judged(record), ITZ_ACCEPTED);
+    IS(record[ITZ_JUDGE_KIND], refusal == ITZ_ACCEPTED ? 1 : 2);
+    if (refusal != ITZ_ACCEPTED) {
+        each_is(ARRAY(entered), 0);
+        each_is(ARRAY(extractor), 0);
+        each_is(ARRAY(read), 0);
+        each_is(ARRAY(reader), 0);
+        return;
+    }
+    IS(entered[ITZ_ENTERED_COUNT], count);
+    IS(entered[ITZ_ENTERED_REPLAY], replay);
+    IS(entered[ITZ_ENTERED_LOST], 0);
+    IS(extractor[ITZ_EXTRACTOR_LAST], count);
+    IS(read[ITZ_BITS_COUNT], count);
+    IS(read[ITZ_BITS_REPLAY], replay);
+    IS(read[ITZ_BITS_LOSS], 0);
+    IS(reader[ITZ_BIT_READER_LAST], count);
+    IS(record[ITZ_JUDGE_LAST], count);
+}
+
+/* A count of an edition in its octets, written and read, and the count after it. */
+static void counted(uint64_t edition, uint64_t count, uint32_t octets, uint64_t next)
+{
+    const uint8_t said[4] = {(uint8_t)(octets >> 24), (uint8_t)(octets >> 16), (uint8_t)(octets >> 8), (uint8_t)octets};
+    writes(edition, count, said, next);
+    lay_octets(said);
+    reads(edition, ITZ_ACCEPTED, count, 0);
+}
+
+static void counts(void)
+{
+    for (uint64_t edition = ITZ_EDITION_FORMER; edition <= ITZ_EDITION_CYCLE_UNUSED; edition++) {
+        counted(edition, 0, 0x00000000, 1);
+        counted(edition, 0xBCDEF1, 0xBCDEF100, 0xBCDEF2);
+        counted(edition, 0xFFFFFF, 0xFFFFFF00, 0);
+    }
+    counted(ITZ_EDITION_CYCLE_USED, 0, 0x00000040, 1);
+    counted(ITZ_EDITION_CYCLE_USED, 0xBCDEF1, 0xBCDEF140, 0xBCDEF2);
+    counted(ITZ_EDITION_CYCLE_USED, 0xFFFFFF, 0xFFFFFF40, 0x1000000);
+    counted(ITZ_EDITION_CYCLE_USED, 0x1000000, 0x00000041, 0x1000001);
+    counted(ITZ_EDITION_CYCLE_USED, 0xABCDEF1, 0xBCDEF14A, 0xABCDEF2);
+    counted(ITZ_EDITION_CYCLE_USED, 0xFFFFFFF, 0xFFFFFF4F, 0);
+}
+
+/* Every signalling octet at every edition. */
+static void signalling(void)
+{
+    for (uint64_t edition = 0; edition < EDITIONS; edition++)
+        for (unsigned octet = 0; octet < 256; octet++) {
+            const uint8_t octets[4] = {0xBC, 0xDE, 0xF1, (uint8_t)octet};
+            uint64_t replay = octet >> 7, usage = octet >> 6 & 1, spare = octet >> 4 & 3, cycle = octet & 15;
+            lay_octets(octets);
+            if (spare != 0 || usage != (edition == ITZ_EDITION_CYCLE_USED) || (usage == 0 && cycle != 0))
+                reads(edition, ITZ_REFUSED_SPARE, 0, 0);
+            else
+                reads(edition, ITZ_ACCEPTED, cycle << 24 | 0xBCDEF1, replay);
+        }
+}
+
+/* The usage behind the channel and before the pointer; a step does not ask for it again. */
+static void usage_in_turn(void)
+{
+    lay_count(ITZ_EDITION_FORMER, 7);
+    frame[1] = bit_frame[1] = 0x84;
+    frame[7] = 0x0A;
+    bit_frame[7] = 0x0F;
+    reads(ITZ_EDITION_CYCLE_USED, ITZ_REFUSED_CHANNEL, 0, 0);
+    frame[1] = bit_frame[1] = 0x83;
+    reads(ITZ_EDITION_CYCLE_USED, ITZ_REFUSED_SPARE, 0, 0);
+    frame[5] = bit_frame[5] = 0x40;
+    reads(ITZ_EDITION_CYCLE_USED, ITZ_REFUSED_POINTER, 0, 0);
+    frame[7] = bit_frame[7] = 0;
+    reads(ITZ_EDITION_CYCLE_USED, ITZ_ACCEPTED, 7, 0);
+    frame[5] = 0x3F;
+    finds(ITZ_STEP_PACKET, ITZ_IN_FRAME, 8, 8);
+}
+
+/* From one count to another: the frames lost, the loss flag of bits, and whether the judge finds a fault. */
+static void loses(uint64_t edition, uint64_t last, uint64_t count, uint64_t lost)
+{
+    uint64_t record[ITZ_JUDGE_NUMBERS] = {1, 1, last, 0}, reader[ITZ_BIT_READER_NUMBERS] = {1, last, 0};
+    uint64_t read[ITZ_BITS_NUMBERS];
+
+    set_edition(edition);
+    lay_count(edition, count);
+    begin();
+    extractor[ITZ_EXTRACTOR_KIND] = 2;
+    extractor[ITZ_EXTRACTOR_LAST] = last;
+    IS(enter(), ITZ_ACCEPTED);
+    IS(entered[ITZ_ENTERED_COUNT], count);
+    IS(entered[ITZ_ENTERED_LOST], lost);
+    IS(entered[ITZ_ENTERED_REASON], lost == 0 ? ITZ_REASON_NONE : ITZ_REASON_LOST);
+    IS(extractor[ITZ_EXTRACTOR_LAST], count);
+    IS(itz_bits_read(ARRAY(bit_settings), ARRAY(reader), SIZED(bit_frame), ARRAY(read)), ITZ_ACCEPTED);
+    IS(read[ITZ_BITS_COUNT], count);
+    IS(read[ITZ_BITS_LOSS], lost != 0);
+    IS(judged(record), ITZ_ACCEPTED);
+    IS(record[ITZ_JUDGE_KIND], lost == 0 ? 1 : 2);
+    IS(record[ITZ_JUDGE_TALLY], 2);
+    IS(record[ITZ_JUDGE_LAST], lost == 0 ? count : 1);
+}
+
+static void lost_round_the_wheel(void)
+{
+    for (uint64_t edition = ITZ_EDITION_FORMER; edition <= ITZ_EDITION_CYCLE_UNUSED; edition++) {
+        loses(edition, 5, 9, 3);
+        loses(edition, 0xFFFFFF, 0, 0);
+        loses(edition, 0xFFFFFF, 1, 1);
+        loses(edition, 0, 0, 0xFFFFFF);
+        loses(edition, 1, 0, 0xFFFFFE);
+    }
+    loses(ITZ_EDITION_CYCLE_USED, 5, 9, 3);
+    loses(ITZ_EDITION_CYCLE_USED, 0xFFFFFF, 0x1000000, 0);
+    loses(ITZ_EDITION_CYCLE_USED, 0xFFFFFF, 0, 0xF000000);
+    loses(ITZ_EDITION_CYCLE_USED, 5, 0x1000006, 0x1000000);
+    loses(ITZ_EDITION_CYCLE_USED, 0xFFFFFFF, 0, 0);
+    loses(ITZ_EDITION_CYCLE_USED, 0xFFFFFFF, 1, 1);
+    loses(ITZ_EDITION_CYCLE_USED, 0, 0, 0xFFFFFFF);
+    loses(ITZ_EDITION_CYCLE_USED, 1, 0, 0xFFFFFFE);
+    loses(ITZ_EDITION_CYCLE_USED, 0x1000000, 0xFFFFFF, 0xFFFFFFE);
+}
+
+/* A call with a record: refused (10), and then the record is as it was, or accepted. */
+#define HELD(record, refusal, call) \
+    (memcpy(before, record, sizeof record), IS(call, refusal), \
+     HOLDS((refusal) == ITZ_ACCEPTED || memcmp(before, record, sizeof record) == 0))
+
+/* A count in each record, at each call that is lent one. */
+static void recorded(uint64_t edition, uint64_t count)
+{
+    const uint64_t refusal = count < wheels[edition] ? ITZ_ACCEPTED : ITZ_REFUSED_RECORD;
+    uint64_t mux[ITZ_MUX_NUMBERS], put[ITZ_PUT_NUMBERS], flushed[ITZ_FLUSH_NUMBERS];
+    uint64_t record[ITZ_JUDGE_NUMBERS] = {1, 1, count, 0}, verdict[ITZ_VERDICT_NUMBERS];
+    uint64_t writer[ITZ_BIT_WRITER_NUMBERS] = {count}, reader[ITZ_BIT_READER_NUMBERS] = {1, count, 0};
+    uint64_t read[ITZ_BITS_NUMBERS], before[ITZ_MUX_NUMBERS];
+
+    set_edition(edition);
+    IS(itz_mux_begin(ARRAY(mux)), ITZ_ACCEPTED);
+    mux[ITZ_MUX_COUNT] = count;
+    HELD(mux, refusal, itz_mux_flush(ARRAY(settings), ARRAY(mux), SIZED(frame), ARRAY(flushed)));
+    HELD(mux, refusal, itz_mux_put(ARRAY(settings), ARRAY(mux), SIZED(space), SIZED(frame), ARRAY(put)));
+    IS(itz_mux_begin(ARRAY(mux)), ITZ_ACCEPTED);
+    mux[ITZ_MUX_COUNT] = count;
+    HELD(mux, refusal, itz_mux_idle(ARRAY(settings), ARRAY(mux), SIZED(frame)));
+    mux[ITZ_MUX_COUNT] = count;
+    mux[ITZ_MUX_TAKEN] = 2;
+    HELD(mux, refusal, itz_mux_put(ARRAY(settings), ARRAY(mux), SIZED(wrapped), SIZED(frame), ARRAY(put)));
+
+    lay_count(edition, 7);
+    for (uint64_t kind = 1; kind <= 4; kind++) {
+        begin();
+        extractor[ITZ_EXTRACTOR_KIND] = kind;
+        extractor[ITZ_EXTRACTOR_LAST] = count;
+        HELD(extractor, refusal, kind <= 2 ? enter() : take_step());
+    }
+
+    HELD(record, refusal, itz_judge_close(ARRAY(settings), ARRAY(record), SIZED(store), ARRAY(verdict)));
+    HELD(record, refusal, judged(record));
+
+    HELD(writer, refusal, itz_bits_write(ARRAY(bit_settings), ARRAY(writer), SIZED(four_bits), 4, SIZED(bit_frame)));
+    lay_count(edition, 7);
+    HELD(reader, refusal, itz_bits_read(ARRAY(bit_settings), ARRAY(reader), SIZED(bit_frame), ARRAY(read)));
+}
+
+static void counts_in_records(void)
+{
+    static const uint64_t tried[] = {
+        0xFFFFFF, 0x1000000, 0x1000001, 0xFFFFFFF, 0x10000000, 0x10000001,
+        0xFFFFFFFF, 0x100000000, 0x100000001, UINT64_MAX};
+    for (uint64_t edition = 0; edition < EDITIONS; edition++)
+        for (size_t i = 0; i < sizeof tried / sizeof tried[0]; i++)
+            recorded(edition, tried[i]);
+}
+
+/* The judge's last frame is the same at every edition, whatever the width of its counts. */
+static void last_judged(void)
+{
+    for (uint64_t edition = 0; edition < EDITIONS; edition++) {
+        uint64_t record[ITZ_JUDGE_NUMBERS] = {1, 0xFFFFFF, 6, 0};
+        set_edition(edition);
+        lay_count(edition, 7);
+        IS(judged(record), ITZ_ACCEPTED);
+        IS(record[ITZ_JUDGE_KIND], 1);
+        IS(record[ITZ_JUDGE_TALLY], 0x1000000);
+        IS(judged(record), ITZ_REFUSED_LAST);
+        record[ITZ_JUDGE_TALLY] = 0x1000001;
+        IS(judged(record), ITZ_REFUSED_RECORD);
+    }
+}
+
+/* An answer before a call, and behind one that is refused: 0, or with an array too short as it was. */
+#define ANSWERED(answer, refusal, call) \
+    (memset(answer, 0xA5, sizeof answer), IS(call, refusal), \
+     each_is(ARRAY(answer), (refusal) == ITZ_REFUSED_ROOM ? 0xA5A5A5A5A5A5A5A5 : 0))
+
+/* Each call that takes settings, lent so many of them fewer than there are: refused, with nothing written. */
+static void settings_refused(size_t missing, uint64_t refusal)
+{
+    const size_t lent = ITZ_SETTINGS_NUMBERS - missing, bits_lent = ITZ_BIT_SETTINGS_NUMBERS - missing;
+    static const uint64_t walking[ITZ_EXTRACTOR_NUMBERS] = {3, 6, 0, 0};
+    uint64_t mux[ITZ_MUX_NUMBERS], begun[ITZ_MUX_NUMBERS], put[ITZ_PUT_NUMBERS], flushed[ITZ_FLUSH_NUMBERS];
+    uint64_t record[ITZ_JUDGE_NUMBERS] = ITZ_JUDGE_START, verdict[ITZ_VERDICT_NUMBERS];
+    uint64_t writer[ITZ_BIT_WRITER_NUMBERS] = {6}, reader[ITZ_BIT_READER_NUMBERS] = ITZ_BIT_READER_START;
+    uint64_t read[ITZ_BITS_NUMBERS];
+    uint8_t written[FRAME], as_it_was[FRAME], kept[LIMIT];
+
+    memset(written, 0x5A, sizeof written);
+    memset(as_it_was, 0x5A, sizeof as_it_was);
+    memcpy(kept, store, LIMIT);
+    IS(itz_mux_begin(ARRAY(mux)), ITZ_ACCEPTED);
+    memcpy(begun, mux, sizeof mux);
+    ANSWERED(put, refusal, itz_mux_put(settings, lent, ARRAY(mux), SIZED(space), SIZED(written), ARRAY(put)));
+    ANSWERED(flushed, refusal, itz_mux_flush(settings, lent, ARRAY(mux), SIZED(written), ARRAY(flushed)));
+    IS(itz_mux_idle(settings, lent, ARRAY(mux), SIZED(written)), refusal);
+    HOLDS(memcmp(mux, begun, sizeof mux) == 0);
+    IS(itz_bits_write(bit_settings, bits_lent, ARRAY(writer), SIZED(four_bits), 4, SIZED(written)), refusal);
+    IS(writer[ITZ_BIT_WRITER_COUNT], 6);
+    HOLDS(memcmp(written, as_it_was, sizeof written) == 0);
+
+    lay_count(ITZ_EDITION_FORMER, 7);
+    begin();
+    ANSWERED(entered, refusal, itz_extractor_enter(settings, lent, ARRAY(extractor), SIZED(store), SIZED(frame), ARRAY(entered)));
+    each_is(ARRAY(extractor), 0);
+    memcpy(extractor, walking, sizeof walking);
+    ANSWERED(step, refusal, itz_extractor_step(settings, lent, ARRAY(extractor), SIZED(store), SIZED(frame), ARRAY(step)));
+    HOLDS(memcmp(extractor, walking, sizeof walking) == 0);
+    IS(itz_judge_frame(settings, lent, ARRAY(record), SIZED(store), SIZED(frame)), refusal);
+    ANSWERED(verdict, refusal, itz_judge_close(settings, lent, ARRAY(record), SIZED(store), ARRAY(verdict)));
+    each_is(ARRAY(record), 0);
+    ANSWERED(read, refusal, itz_bits_read(bit_settings, bits_lent, ARRAY(reader), SIZED(bit_frame), ARRAY(read)));
+    each_is(ARRAY(reader), 0);
+    HOLDS(memcmp(store, kept, LIMIT) == 0);
+}
+
+static void editions_refused(void)
+{
+    static const uint64_t unknown[] = {3, 4, 0x100000000, 0x100000002, UINT64_MAX};
+    for (size_t i = 0; i < sizeof unknown / sizeof unknown[0]; i++) {
+        set_edition(unknown[i]);
+        settings_refused(0, ITZ_REFUSED_SETTING);
+        settings_refused(1, ITZ_REFUSED_ROOM);
+    }
+    for (uint64_t edition = 0; edition < EDITIONS; edition++) {
+        set_edition(edition);
+        settings_refused(1, ITZ_REFUSED_ROOM);
+    }
+}
+
+/* The count ABCDEF1 in frames with trailers, which are asked for before the usage. */
+static void editions_with_trailers(void)
+{
+    static const uint8_t octets[4] = {0xBC, 0xDE, 0xF1, 0x4A};
+    uint64_t mux[ITZ_MUX_NUMBERS], put[ITZ_PUT_NUMBERS], writer[ITZ_BIT_WRITER_NUMBERS] = {0xABCDEF1};
+    uint64_t reader[ITZ_BIT_READER_NUMBERS] = ITZ_BIT_READER_START, read[ITZ_BITS_NUMBERS];
+    uint8_t longer[FRAME + TRAILER], longer_bits[BIT_FRAME + TRAILER];
+
+    set_edition(ITZ_EDITION_CYCLE_USED);
+    settings[ITZ_SETTINGS_TRAILER] = bit_settings[ITZ_BIT_SETTINGS_TRAILER] = 1;
+    lay_octets(octets);
+    IS(itz_mux_begin(ARRAY(mux)), ITZ_ACCEPTED);
+    mux[ITZ_MUX_COUNT] = 0xABCDEF1;
+    IS(itz_mux_put(ARRAY(settings), ARRAY(mux), frame + 8, 8, SIZED(longer), ARRAY(put)), ITZ_ACCEPTED);
+    IS(itz_mux_put(ARRAY(settings), ARRAY(mux), SIZED(encapsulation), SIZED(longer), ARRAY(put)), ITZ_ACCEPTED);
+    HOLDS(memcmp(longer, frame, FRAME) == 0);
+    IS(longer[FRAME], 0x97);
+    IS(longer[FRAME + 1], 0x26);
+    begin();
+    longer[5] = 0x0A;
+    IS(enter_longer(longer), ITZ_REFUSED_TRAILER);
+    longer[FRAME] = 0xCD;
+    longer[FRAME + 1] = 0xF6;
+    IS(enter_longer(longer), ITZ_REFUSED_SPARE);
+    longer[5] = 0x4A;
+    longer[FRAME] = 0x97;
+    longer[FRAME + 1] = 0x26;
+    IS(enter_longer(longer), ITZ_ACCEPTED);
+    IS(entered[ITZ_ENTERED_COUNT], 0xABCDEF1);
+
+    IS(itz_bits_write(ARRAY(bit_settings), ARRAY(writer), SIZED(four_bits), 4, SIZED(longer_bits)), ITZ_ACCEPTED);
+    HOLDS(memcmp(longer_bits, bit_frame, BIT_FRAME) == 0);
+    IS(longer_bits[BIT_FRAME], 0x6B);
+    IS(longer_bits[BIT_FRAME + 1], 0x39);
+    IS(itz_bits_read(ARRAY(bit_settings), ARRAY(reader), SIZED(longer_bits), ARRAY(read)), ITZ_ACCEPTED);
+    IS(read[ITZ_BITS_COUNT], 0xABCDEF1);
+    longer_bits[5] = 0x0A;
+    IS(itz_bits_read(ARRAY(bit_settings), ARRAY(reader), SIZED(longer_bits), ARRAY(read)), ITZ_REFUSED_TRAILER);
+    longer_bits[BIT_FRAME] = 0x7A;
+    longer_bits[BIT_FRAME + 1] = 0x51;
+    IS(itz_bits_read(ARRAY(bit_settings), ARRAY(reader), SIZED(longer_bits), ARRAY(read)), ITZ_REFUSED_SPARE);
+}
+
+static void editions(void)
+{
+    IS(ITZ_EDITION_FORMER, 0);
+    IS(ITZ_EDITION_CYCLE_UNUSED, 1);
+    IS(ITZ_EDITION_CYCLE_USED, 2);
+    counts();
+    signalling();
+    usage_in_turn();
+    lost_round_the_wheel();
+    counts_in_records();
+    last_judged();
+    editions_refused();
+    editions_with_trailers();
     set();
 }
 
@@ -665,6 +1071,7 @@ int main(void)
     losses();
     trailers();
     bit_trailers();
+    editions();
     relays();
     printf("%u answers, 0 differ\n", checks);
     return EXIT_SUCCESS;

@@ -7,8 +7,9 @@
  * table says where the space packet goes from there. Then a frame comes with a
  * wrong pointer, and the extractor says why it gives up the frame's zone. The
  * same run is sent in frames that end with a trailer, and a bit of it is changed.
- * Last come bits on a channel of their own, with a frame lost in the fill between
- * them.
+ * It is sent by a newer spacecraft, whose counts have 28 bits, and 2^24 frames are
+ * lost. Last come bits on a channel of their own, with a frame lost in the fill
+ * between them.
  *
  * `make` beside this file builds it, and the library where it is not there yet.
  */
@@ -24,7 +25,7 @@
 #define TRAILER 2
 #define FRAMES 4
 
-static uint64_t settings[ITZ_SETTINGS_NUMBERS] = {66, 3, ZONE, LIMIT, 0x55, 0};
+static uint64_t settings[ITZ_SETTINGS_NUMBERS] = {66, 3, ZONE, LIMIT, 0x55, 0, ITZ_EDITION_FORMER};
 
 static uint8_t frames[FRAMES][FRAME + TRAILER];
 static size_t frame_len = FRAME; /* octets of a frame, by the settings */
@@ -152,7 +153,7 @@ static void relay(const uint64_t *table, const uint8_t *packet, size_t size)
 /* Eight bits, three frames of fill and eight bits again. The frame with the count 2 is lost: the bits behind the fill tell it. */
 static void send_bits(void)
 {
-    static const uint64_t channel[ITZ_BIT_SETTINGS_NUMBERS] = {66, 4, WIDTH, 0x55, 0};
+    static const uint64_t channel[ITZ_BIT_SETTINGS_NUMBERS] = {66, 4, WIDTH, 0x55, 0, ITZ_EDITION_FORMER};
     static const uint8_t octet[] = {0x71};
     static const uint64_t offered[] = {8, 0, 0, 0, 8};
     uint64_t writer[ITZ_BIT_WRITER_NUMBERS] = ITZ_BIT_WRITER_START;
@@ -214,6 +215,14 @@ int main(void)
     send_run();
     receive_run();
     frames[1][10] ^= 0x01; /* the second frame has one bit changed on its way */
+    receive_run();
+
+    settings[ITZ_SETTINGS_TRAILER] = 0;
+    settings[ITZ_SETTINGS_EDITION] = ITZ_EDITION_CYCLE_USED;
+    frame_len = FRAME;
+    send_run();
+    receive_run();
+    frames[1][5] = 0x41; /* the second frame is of the next cycle: counts of 24 bits would say that none is lost */
     receive_run();
 
     send_bits();
