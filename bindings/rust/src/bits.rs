@@ -1,6 +1,6 @@
 use crate::ffi;
 use crate::settings::{frame_length, FILL};
-use crate::Refusal;
+use crate::{Edition, Refusal};
 
 /// A channel that carries bits.
 #[derive(Clone, Copy, Debug, PartialEq, Eq)]
@@ -10,13 +10,21 @@ pub struct BitSettings {
     width: usize,
     fill: u8,
     trailer: bool,
+    edition: Edition,
 }
 
 impl BitSettings {
     /// A spacecraft, one of its channels (0 to 62) and the octets of a frame's bitstream zone (1 to 2,047). Refused is a number out
     /// of range.
     pub fn new(spacecraft: u8, channel: u8, width: usize) -> Result<BitSettings, Refusal> {
-        let settings = BitSettings { spacecraft, channel, width, fill: FILL, trailer: false };
+        let settings = BitSettings {
+            spacecraft,
+            channel,
+            width,
+            fill: FILL,
+            trailer: false,
+            edition: Edition::default(),
+        };
         // The settings are looked at before the frame, and no frame is empty.
         let said = ffi::bits_read(&settings.numbers(), &mut [0; 3], &[], &mut [0; 6]);
         match Refusal::check(said) {
@@ -35,6 +43,11 @@ impl BitSettings {
         BitSettings { trailer, ..self }
     }
 
+    /// The same channel with frames of another edition, which is the former one from the start.
+    pub fn with_edition(self, edition: Edition) -> BitSettings {
+        BitSettings { edition, ..self }
+    }
+
     /// The octets of a bitstream zone.
     pub fn width(&self) -> usize {
         self.width
@@ -45,13 +58,14 @@ impl BitSettings {
         frame_length(self.width, self.trailer)
     }
 
-    fn numbers(&self) -> [u64; 5] {
+    fn numbers(&self) -> [u64; 6] {
         [
             self.spacecraft.into(),
             self.channel.into(),
             self.width as u64,
             self.fill.into(),
             self.trailer.into(),
+            self.edition.number(),
         ]
     }
 }
@@ -87,7 +101,7 @@ impl BitWriter {
 /// The bits of a frame.
 #[derive(Clone, Copy, Debug, PartialEq, Eq)]
 pub struct Bits<'a> {
-    /// The frame's count.
+    /// The frame's count, of 24 or 28 bits by the edition.
     pub count: u32,
     /// Its replay flag.
     pub replay: bool,

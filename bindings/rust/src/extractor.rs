@@ -58,11 +58,11 @@ impl Reason {
 /// What a frame says as it is entered.
 #[derive(Clone, Copy, Debug, PartialEq, Eq)]
 pub struct Entered {
-    /// The frame's count.
+    /// The frame's count, of 24 or 28 bits by the edition.
     pub count: u32,
     /// Its replay flag.
     pub replay: bool,
-    /// Frames missing between the last one and this.
+    /// Frames missing between the last one and this, modulo 2^24, or 2^28 where counts have 28 bits.
     pub lost: u32,
     /// Held octets that were dropped.
     pub dropped: usize,

@@ -8,8 +8,8 @@
 //! ```
 //!
 //! A table of [`relay`] says where the packets go from there. Frames that end with an error control field are those of
-//! [`Settings::with_trailer`] and [`BitSettings::with_trailer`]. Where a packet's header is damaged, a [`Damage`] says what is wrong
-//! with it.
+//! [`Settings::with_trailer`] and [`BitSettings::with_trailer`]; frames whose counts have 28 bits are those of an [`Edition`]. Where a
+//! packet's header is damaged, a [`Damage`] says what is wrong with it.
 #![warn(missing_docs)]
 
 mod bits;
@@ -31,5 +31,5 @@ pub use judge::{judge, Judge, Verdict};
 pub use multiplexer::{multiplex, Multiplexer};
 pub use packet::{read_header, unwrap, well_formed, wrap, Front, Header, Kind, Unwrapped};
 pub use refusal::Refusal;
-pub use settings::Settings;
+pub use settings::{Edition, Settings};
 pub use space::SpaceHeader;

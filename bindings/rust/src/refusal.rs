@@ -16,7 +16,8 @@ pub enum Refusal {
     Version,
     /// The frame is of another spacecraft or channel.
     Channel,
-    /// A spare bit is 1; or, unwrapping, an extension without protocol 6 or a reserved field that is not 0.
+    /// A spare bit is 1; the usage of the count is not that of the edition that is set, or is 0 and the cycle is not; or, unwrapping,
+    /// an extension without protocol 6 or a reserved field that is not 0.
     Spare,
     /// The frame's pointer is one that cannot be.
     Pointer,
@@ -101,7 +102,9 @@ impl fmt::Display for Refusal {
             Refusal::Length => "the frame does not have exactly its length",
             Refusal::Version => "the frame's version is not 01",
             Refusal::Channel => "the frame is of another spacecraft or channel",
-            Refusal::Spare => "a spare bit is 1, or a field that must be 0 is not",
+            Refusal::Spare => {
+                "a spare bit is 1, the count is of another edition, or a field that must be 0 is not"
+            }
             Refusal::Pointer => "the frame's pointer is one that cannot be",
             Refusal::Packet(Some(damage)) => return write!(f, "refused {number}: {damage}"),
             Refusal::Packet(None) => {

@@ -15,6 +15,44 @@ pub(crate) fn frame_length(zone: usize, trailer: bool) -> usize {
     HEAD + zone + if trailer { TRAILER } else { 0 }
 }
 
+/// The edition of the standard that the frames of a channel follow, and with it the bits of their counts. It decides on the
+/// signalling octet, the one behind the three of the count, whose first bit is the replay flag at each of them.
+///
+/// ```
+/// # fn main() -> Result<(), itzahuemo::Refusal> {
+/// use itzahuemo::{Edition, Event, Extractor, Refusal, Settings};
+///
+/// // A frame without packets, and the count ABCDEF1 in hexadecimal.
+/// let frame = *b"\x50\x83\xBC\xDE\xF1\x4A\x07\xFE\x55\x55";
+/// let settings = Settings::new(66, 3, 2, 1024)?;
+/// assert_eq!(Extractor::new(settings).feed(&frame).err(), Some(Refusal::Spare));
+/// let mut extractor = Extractor::new(settings.with_edition(Edition::CycleUsed));
+/// for event in extractor.feed(&frame)? {
+///     assert!(matches!(event, Event::Entered(entered) if entered.count == 0x0ABC_DEF1));
+/// }
+/// # Ok(())
+/// # }
+/// ```
+#[derive(Clone, Copy, Debug, Default, PartialEq, Eq, Hash)]
+pub enum Edition {
+    /// CCSDS 701.0-B-2: the other seven bits are spare, and counts have 24 bits.
+    #[default]
+    Former = 0,
+    /// CCSDS 732.0-B-3 with usage 0 of the count: its cycle is 0, and counts have 24 bits. The frames are to the octet those of
+    /// `Former`.
+    CycleUnused = 1,
+    /// CCSDS 732.0-B-3 with usage 1 of the count: the four bits of its cycle, the last of the octet, stand above the 24 bits, and
+    /// counts have 28 bits.
+    CycleUsed = 2,
+}
+
+impl Edition {
+    /// Its number, 0 to 2.
+    pub fn number(self) -> u64 {
+        self as u64
+    }
+}
+
 /// A channel that carries packets.
 #[derive(Clone, Copy, Debug, PartialEq, Eq)]
 pub struct Settings {
@@ -24,6 +62,7 @@ pub struct Settings {
     limit: usize,
     fill: u8,
     trailer: bool,
+    edition: Edition,
 }
 
 impl Settings {
@@ -35,7 +74,15 @@ impl Settings {
         zone: usize,
         limit: usize,
     ) -> Result<Settings, Refusal> {
-        let settings = Settings { spacecraft, channel, zone, limit, fill: FILL, trailer: false };
+        let settings = Settings {
+            spacecraft,
+            channel,
+            zone,
+            limit,
+            fill: FILL,
+            trailer: false,
+            edition: Edition::default(),
+        };
         // The settings are looked at before the store, and an empty store holds no packet.
         let said = ffi::judge_close(&settings.numbers(), &[0; 4], &[], &mut [0; 2]);
         match Refusal::check(said) {
@@ -69,6 +116,11 @@ impl Settings {
         Settings { trailer, ..self }
     }
 
+    /// The same channel with frames of another edition, which is the former one from the start.
+    pub fn with_edition(self, edition: Edition) -> Settings {
+        Settings { edition, ..self }
+    }
+
     /// The spacecraft's number.
     pub fn spacecraft(&self) -> u8 {
         self.spacecraft
@@ -99,12 +151,17 @@ impl Settings {
         self.trailer
     }
 
+    /// The edition that its frames follow.
+    pub fn edition(&self) -> Edition {
+        self.edition
+    }
+
     /// The octets of a frame.
     pub fn frame_length(&self) -> usize {
         frame_length(self.zone, self.trailer)
     }
 
-    pub(crate) fn numbers(&self) -> [u64; 6] {
+    pub(crate) fn numbers(&self) -> [u64; 7] {
         [
             self.spacecraft.into(),
             self.channel.into(),
@@ -112,6 +169,7 @@ impl Settings {
             self.limit as u64,
             self.fill.into(),
             self.trailer.into(),
+            self.edition.number(),
         ]
     }
 }

@@ -37,6 +37,8 @@ const TRAILED: [[u8; 20]; 2] = [
     ],
 ];
 
+const EDITIONS: [Edition; 3] = [Edition::Former, Edition::CycleUnused, Edition::CycleUsed];
+
 fn settings() -> Settings {
     Settings::new(66, 3, 10, LIMIT).unwrap()
 }
@@ -52,6 +54,20 @@ fn with_a_bit_changed(frame: &[u8]) -> impl Iterator<Item = Vec<u8>> + '_ {
         changed[at / 8] ^= 0x80 >> (at % 8);
         changed
     })
+}
+
+/// A frame with other octets of its count, and another signalling octet behind them.
+fn with_count(frame: &[u8], octets: [u8; 4]) -> Vec<u8> {
+    let mut counted = frame.to_vec();
+    counted[2..6].copy_from_slice(&octets);
+    counted
+}
+
+/// The octets of a count and the signalling octet behind them, as an edition has them.
+fn octets_of(edition: Edition, count: u32) -> [u8; 4] {
+    let [cycle, octets @ ..] = count.to_be_bytes();
+    let signalling = if edition == Edition::CycleUsed { 0x40 | cycle } else { 0 };
+    [octets[0], octets[1], octets[2], signalling]
 }
 
 fn entered(event: Option<Event>) -> Entered {
@@ -79,6 +95,12 @@ fn settings_are_those_of_the_rules() {
     assert!(settings().with_trailer(true).trailer());
     assert_eq!(settings().with_trailer(true).frame_length(), 20);
     assert_eq!(settings().with_trailer(true).with_trailer(false), settings());
+    assert_eq!(settings().edition(), Edition::Former);
+    for edition in EDITIONS {
+        assert_eq!(settings().with_edition(edition).edition(), edition);
+        assert_eq!(settings().with_edition(edition).frame_length(), 18);
+        assert_eq!(settings().with_edition(edition).with_edition(Edition::Former), settings());
+    }
     assert!(Settings::new(255, 62, 2_046, 65_542).is_ok());
     for (channel, zone, limit) in
         [(63, 10, 1_024), (3, 0, 1_024), (3, 2_047, 4_096), (3, 10, 9), (3, 1, 6), (3, 10, 65_543)]
@@ -430,6 +452,117 @@ fn bits_go_round_with_trailers() {
     assert_eq!(bits, Bits { count: 1, replay: false, lost: false, number: 0, octets: &[] });
 }
 
+#[test]
+fn editions_have_numbers() {
+    assert_eq!(EDITIONS.map(Edition::number), [0, 1, 2]);
+    assert_eq!(Edition::default(), Edition::Former);
+}
+
+#[test]
+fn frames_of_each_edition_are_written() {
+    for (edition, signalling) in EDITIONS.into_iter().zip([0x00, 0x00, 0x40]) {
+        let settings = settings().with_edition(edition);
+        let written = multiplex(settings, [&SPACE[..], &ENCAPSULATION[..]]).unwrap();
+        assert_eq!(written[0], with_count(&frames()[0], [0, 0, 0, signalling]));
+        assert_eq!(written[1], with_count(&frames()[1], [0, 0, 1, signalling]));
+        let idle = Multiplexer::new(settings).idle().unwrap();
+        assert_eq!(idle[..8], [0x50, 0x83, 0, 0, 0, signalling, 0x07, 0xFE]);
+        assert_eq!(judge(settings, &written), Ok(Verdict::Pass));
+        let settings = BitSettings::new(66, 3, 1).unwrap().with_edition(edition);
+        let mut writer = BitWriter::new(settings);
+        let frame = writer.write(&[0x70], 4).unwrap();
+        assert_eq!(frame, [0x50, 0x83, 0, 0, 0, signalling, 0x00, 0x03, 0x75]);
+        let frame = writer.write(&[], 0).unwrap();
+        assert_eq!(frame, [0x50, 0x83, 0, 0, 1, signalling, 0x3F, 0xFE, 0x55]);
+    }
+}
+
+#[test]
+fn every_signalling_octet_is_read_by_its_edition() {
+    let of_bits = [0x50, 0x83, 0, 0, 0, 0, 0x00, 0x03, 0x75];
+    for edition in EDITIONS {
+        let settings = settings().with_edition(edition);
+        let bit_settings = BitSettings::new(66, 3, 1).unwrap().with_edition(edition);
+        for signalling in 0..=255 {
+            let octets = [0xBC, 0xDE, 0xF1, signalling];
+            let frame = with_count(&frames()[0], octets);
+            let of_bits = with_count(&of_bits, octets);
+            let mut extractor = Extractor::new(settings);
+            let read = extractor.feed(&frame).map(|mut events| entered(events.next()));
+            let bits = BitReader::new(bit_settings).read(&of_bits);
+            let verdict = judge(settings, [&frame]);
+            let right = match edition {
+                Edition::CycleUsed => signalling & 0x70 == 0x40,
+                _ => signalling & 0x7F == 0,
+            };
+            if !right {
+                assert_eq!(read, Err(Refusal::Spare));
+                assert_eq!(bits, Err(Refusal::Spare));
+                assert_eq!(verdict, Ok(Verdict::Fault(0)));
+                continue;
+            }
+            let count = 0x00BC_DEF1 | u32::from(signalling & 0x0F) << 24;
+            let replay = signalling >= 0x80;
+            let told = Entered { count, replay, lost: 0, dropped: 0, reason: Reason::None };
+            assert_eq!(read, Ok(told));
+            assert_eq!(bits, Ok(Bits { count, replay, lost: false, number: 4, octets: &[0x75] }));
+            assert_eq!(verdict, Ok(Verdict::Fault(1)));
+        }
+    }
+}
+
+#[test]
+fn losses_are_counted_round_the_wheel_of_the_edition() {
+    let of_bits = [0x50, 0x83, 0, 0, 0, 0, 0x3F, 0xFF, 0x75];
+    for (edition, last, count, lost) in [
+        (Edition::Former, 0xFF_FFFF, 0, 0),
+        (Edition::Former, 7, 7, 0xFF_FFFF),
+        (Edition::CycleUnused, 0xFF_FFFF, 0, 0),
+        (Edition::CycleUnused, 7, 7, 0xFF_FFFF),
+        (Edition::CycleUsed, 0xFF_FFFF, 0x100_0000, 0),
+        (Edition::CycleUsed, 0xFF_FFFF, 0, 0xF00_0000),
+        (Edition::CycleUsed, 7, 0x100_0008, 0x100_0000),
+        (Edition::CycleUsed, 0xFFF_FFFF, 0, 0),
+        (Edition::CycleUsed, 0xFFF_FFFF, 2, 2),
+        (Edition::CycleUsed, 7, 7, 0xFFF_FFFF),
+        (Edition::CycleUsed, 0x100_0000, 0xFF_FFFF, 0xFFF_FFFE),
+    ] {
+        let settings = settings().with_edition(edition);
+        let idle = Multiplexer::new(settings).idle().unwrap();
+        let run = [last, count].map(|count| with_count(&idle, octets_of(edition, count)));
+        let mut extractor = Extractor::new(settings);
+        assert_eq!(entered(extractor.feed(&run[0]).unwrap().next()).count, last);
+        let told = entered(extractor.feed(&run[1]).unwrap().next());
+        assert_eq!((told.count, told.lost), (count, lost));
+        assert_eq!(told.reason, if lost == 0 { Reason::None } else { Reason::Lost });
+        let verdict = if lost == 0 { Verdict::Pass } else { Verdict::Fault(1) };
+        assert_eq!(judge(settings, &run), Ok(verdict));
+        let settings = BitSettings::new(66, 3, 1).unwrap().with_edition(edition);
+        let run = [last, count].map(|count| with_count(&of_bits, octets_of(edition, count)));
+        let mut reader = BitReader::new(settings);
+        assert!(!reader.read(&run[0]).unwrap().lost);
+        assert_eq!(reader.read(&run[1]).unwrap().lost, lost != 0);
+    }
+}
+
+#[test]
+fn editions_go_with_trailers() {
+    let settings = settings().with_edition(Edition::CycleUsed).with_trailer(true);
+    let written = multiplex(settings, [&SPACE[..], &ENCAPSULATION[..]]).unwrap();
+    assert_eq!(written[0][..18], with_count(&frames()[0], [0, 0, 0, 0x40]));
+    assert_eq!(written[0][18..], [0x77, 0xA5]);
+    assert_eq!(written[1][..18], with_count(&frames()[1], [0, 0, 1, 0x40]));
+    assert_eq!(written[1][18..], [0x19, 0xB3]);
+    assert_eq!(judge(settings, &written), Ok(Verdict::Pass));
+    let mut extractor = Extractor::new(settings);
+    let frame = with_count(&written[0], [0xBC, 0xDE, 0xF1, 0x0A]);
+    assert_eq!(extractor.feed(&frame).err(), Some(Refusal::Trailer));
+    let frame = [&frame[..18], &[0xCD, 0xF6]].concat();
+    assert_eq!(extractor.feed(&frame).err(), Some(Refusal::Spare));
+    let frame = [&with_count(&frame, [0xBC, 0xDE, 0xF1, 0x4A])[..18], &[0x97, 0x26]].concat();
+    assert_eq!(entered(extractor.feed(&frame).unwrap().next()).count, 0x0ABC_DEF1);
+}
+
 fn entries(pairs: &[(u16, u8)]) -> Vec<Entry> {
     pairs.iter().map(|&(apid, destination)| Entry { apid, destination }).collect()
 }
@@ -477,6 +610,7 @@ fn refusals_say_why() {
     assert_eq!(Refusal::Packet(Some(Damage::OverLimit)).number(), 8);
     let said = Refusal::Pointer.to_string();
     assert_eq!(said, "refused 7: the frame's pointer is one that cannot be");
+    assert!(Refusal::Spare.to_string().contains("the count is of another edition"));
     let error: Box<dyn std::error::Error + Send + Sync> = Refusal::Table.into();
     assert!(error.to_string().starts_with("refused 12: "));
     let said = Refusal::Packet(None).to_string();
