@@ -11,7 +11,8 @@ A face on the proved library: what has to be remembered between calls is kept he
     print(judge(settings, frames))
 
 A `RelayTable` says where the packets go from there. With `trailer=True` the settings are those of a channel whose frames end with an
-error control field. Where a packet's header is damaged, a `Damage` says what is wrong with it.
+error control field, and with `edition=Edition.CYCLE_USED` of one whose counts have 28 bits. Where a packet's header is damaged, a
+`Damage` says what is wrong with it.
 
 An extractor, a judge, a multiplexer, a reader or a writer of bits or a relay table is used by one thread at a time; different ones may
 be used at the same time.
@@ -19,7 +20,7 @@ be used at the same time.
 
 from ._library import Damage, Refusal, Refused
 from .bits import BitReader, Bits, BitSettings, BitWriter
-from .channel import Settings
+from .channel import Edition, Settings
 from .extractor import Damaged, Entered, Event, Extractor, Packet, Reason
 from .judge import Judge, Verdict, judge
 from .multiplexer import Multiplexer, multiplex
@@ -33,6 +34,7 @@ __all__ = [
     "Bits",
     "Damage",
     "Damaged",
+    "Edition",
     "Entered",
     "Event",
     "Extractor",

@@ -35,7 +35,7 @@ _WHY = {
     Refusal.LENGTH: "the frame does not have exactly its length",
     Refusal.VERSION: "the frame's version is not 01",
     Refusal.CHANNEL: "the frame is of another spacecraft or channel",
-    Refusal.SPARE: "a spare bit is 1, or a field that must be 0 is not",
+    Refusal.SPARE: "a spare bit is 1, the count is of another edition, or a field that must be 0 is not",
     Refusal.POINTER: "the frame's pointer is one that cannot be",
     Refusal.PACKET: "the packet is not well formed, or the data unit cannot be wrapped",
     Refusal.MOMENT: "the wrong moment for this call",

@@ -6,19 +6,21 @@ from dataclasses import dataclass
 from typing import Any, Iterator
 
 from ._library import Octets, Refusal, Refused, answer, call, number_of, numbers, octets, room
-from .channel import frame_length
+from .channel import Edition, frame_length
 
 
 @dataclass(frozen=True)
 class BitSettings:
     """A spacecraft (0 to 255), one of its channels (0 to 62), the octets of a frame's bitstream zone (1 to 2,047), the octet whose
-    bits fill the rest of a zone, and whether frames end with a trailer, as in `Settings`. A number out of range raises `Refused`."""
+    bits fill the rest of a zone, and, as in `Settings`, whether frames end with a trailer and the edition that they follow. A number
+    out of range raises `Refused`."""
 
     spacecraft: int
     channel: int
     width: int
     fill: int = 0x55
     trailer: bool = False
+    edition: Edition = Edition.FORMER
 
     def __post_init__(self) -> None:
         # The settings are looked at before the frame, and no frame is empty.
@@ -32,7 +34,7 @@ class BitSettings:
 
     def numbers(self) -> Any:
         """As the calls take them."""
-        return numbers([self.spacecraft, self.channel, self.width, self.fill, self.trailer])
+        return numbers([self.spacecraft, self.channel, self.width, self.fill, self.trailer, self.edition])
 
 
 class BitWriter:
@@ -52,8 +54,9 @@ class BitWriter:
 
 @dataclass(frozen=True)
 class Bits:
-    """The bits of a frame: its count and replay flag, whether frames were lost since the last frame with bits, how many bits it has,
-    and the octets that hold them. A frame without bits never says that frames were lost: the next one with bits does."""
+    """The bits of a frame: its count (of 24 or 28 bits, by the edition) and replay flag, whether frames were lost since the last frame
+    with bits, how many bits it has, and the octets that hold them. A frame without bits never says that frames were lost: the next one
+    with bits does."""
 
     count: int
     replay: bool

@@ -26,8 +26,9 @@ class Reason(enum.IntEnum):
 
 @dataclass(frozen=True)
 class Entered:
-    """What a frame says as it is entered: its count and replay flag, the frames missing before it, the held octets that were dropped,
-    and why. `damage` is what is wrong with the held header where the reason is `Reason.DAMAGED`, and None with any other."""
+    """What a frame says as it is entered: its count (of 24 or 28 bits, by the edition) and replay flag, the frames missing before it
+    (modulo 2^24 or 2^28), the held octets that were dropped, and why. `damage` is what is wrong with the held header where the reason is
+    `Reason.DAMAGED`, and None with any other."""
 
     count: int
     replay: bool

@@ -12,6 +12,7 @@ from itzahuemo import (
     BitWriter,
     Damage,
     Damaged,
+    Edition,
     Entered,
     Extractor,
     Front,
@@ -64,6 +65,17 @@ TRAILED_FRAMES = [
 ]
 
 
+def with_count(frame: bytes, octets: bytes) -> bytes:
+    """A frame with other octets of its count, and another signalling octet behind them."""
+    return frame[:2] + octets + frame[6:]
+
+
+def octets_of(edition: Edition, count: int) -> bytes:
+    """The octets of a count and the signalling octet behind them, as an edition has them."""
+    cycle, *octets = count.to_bytes(4, "big")
+    return bytes([*octets, 0x40 | cycle if edition == Edition.CYCLE_USED else 0])
+
+
 def with_a_bit_changed(frame: bytes) -> Iterator[bytes]:
     """A frame with one of its bits changed, each in its turn."""
     for at in range(8 * len(frame)):
@@ -108,6 +120,11 @@ class Calls(unittest.TestCase):
             (66, 3, 10, 65543),
             (66, 3, 10, 1024, 256),
             (66, 3, 10, 1024, 0x55, 2),
+            (66, 3, 10, 1024, 0x55, False, 3),
+            (66, 3, 10, 1024, 0x55, True, 4),
+            (66, 3, 10, 1024, 0x55, False, 2**32),
+            (66, 3, 10, 1024, 0x55, False, 2**32 + 2),
+            (66, 3, 10, 1024, 0x55, False, -1),
             (-1, 3, 10, 1024),
             (2**64 + 66, 3, 10, 1024),
         ]:
@@ -115,8 +132,15 @@ class Calls(unittest.TestCase):
         self.assertEqual(BitSettings(66, 3, 2047).frame_length, 2055)
         self.refused(Refusal.SETTING, BitSettings, 66, 3, 2048)
         self.refused(Refusal.SETTING, BitSettings, 66, 3, 1, 0x55, 2)
+        for number in [3, 4, 2**32, 2**32 + 2, -1]:
+            self.refused(Refusal.SETTING, BitSettings, 66, 3, 1, 0x55, False, number)
         self.assertEqual(TRAILED.frame_length, 20)
         self.assertEqual(BitSettings(66, 3, 2047, trailer=True).frame_length, 2057)
+        self.assertEqual(SETTINGS, Settings(66, 3, 10, LIMIT, 0x55, False, Edition.FORMER))
+        self.assertEqual(BitSettings(66, 3, 1), BitSettings(66, 3, 1, 0x55, False, Edition.FORMER))
+        for edition in Edition:
+            self.assertEqual(Settings(66, 3, 10, LIMIT, edition=edition).frame_length, 18)
+            self.assertEqual(BitSettings(66, 3, 1, edition=edition).frame_length, 9)
 
     def test_headers(self) -> None:
         self.assertEqual(read_header(LIMIT, SPACE), Header(5, None, False, 6, 8))
@@ -338,6 +362,83 @@ class Calls(unittest.TestCase):
             self.refused(Refusal.TRAILER, reader.read, changed)
         self.refused(Refusal.LENGTH, reader.read, none[:9])
         self.assertEqual(reader.read(none), Bits(1, False, False, 0, b""))
+
+    def test_editions(self) -> None:
+        self.assertEqual([Edition(number).name for number in range(3)], "FORMER CYCLE_UNUSED CYCLE_USED".split())
+
+    def test_editions_written(self) -> None:
+        for edition, signalling in zip(Edition, [b"\x00", b"\x00", b"\x40"]):
+            settings = Settings(66, 3, 10, LIMIT, edition=edition)
+            frames = multiplex(settings, [SPACE, ENCAPSULATION])
+            counts = [b"\0\0\0" + signalling, b"\0\0\1" + signalling]
+            self.assertEqual(frames, [with_count(frame, octets) for frame, octets in zip(FRAMES, counts)])
+            self.assertEqual(Multiplexer(settings).idle()[:8], b"\x50\x83" + counts[0] + b"\x07\xfe")
+            self.assertTrue(judge(settings, frames))
+            writer = BitWriter(BitSettings(66, 3, 1, edition=edition))
+            self.assertEqual(writer.write(b"\x70", 4), b"\x50\x83" + counts[0] + b"\x00\x03\x75")
+            self.assertEqual(writer.write(b"", 0), b"\x50\x83" + counts[1] + b"\x3f\xfe\x55")
+
+    def test_every_signalling_octet(self) -> None:
+        of_bits = bytes.fromhex("5083000000000003 75")
+        for edition in Edition:
+            settings = Settings(66, 3, 10, LIMIT, edition=edition)
+            bit_settings = BitSettings(66, 3, 1, edition=edition)
+            for signalling in range(256):
+                octets = bytes([0xBC, 0xDE, 0xF1, signalling])
+                frame = with_count(FRAMES[0], octets)
+                bit_frame = with_count(of_bits, octets)
+                right = signalling & 0x70 == 0x40 if edition == Edition.CYCLE_USED else signalling & 0x7F == 0
+                if not right:
+                    self.refused(Refusal.SPARE, Extractor(settings).feed, frame)
+                    self.refused(Refusal.SPARE, BitReader(bit_settings).read, bit_frame)
+                    self.assertEqual(judge(settings, [frame]).fault, 0)
+                    continue
+                count = (signalling & 0x0F) << 24 | 0xBCDEF1
+                replay = signalling >= 0x80
+                entered, _space = Extractor(settings).feed(frame)
+                self.assertEqual(entered, Entered(count, replay, 0, 0, Reason.NONE))
+                self.assertEqual(BitReader(bit_settings).read(bit_frame), Bits(count, replay, False, 4, b"\x75"))
+                self.assertEqual(judge(settings, [frame]).fault, 1)
+
+    def test_losses_round_the_wheel(self) -> None:
+        of_bits = bytes.fromhex("5083000000003FFF 75")
+        for edition, last, count, lost in [
+            (Edition.FORMER, 0xFFFFFF, 0, 0),
+            (Edition.FORMER, 7, 7, 0xFFFFFF),
+            (Edition.CYCLE_UNUSED, 0xFFFFFF, 0, 0),
+            (Edition.CYCLE_UNUSED, 7, 7, 0xFFFFFF),
+            (Edition.CYCLE_USED, 0xFFFFFF, 0x1000000, 0),
+            (Edition.CYCLE_USED, 0xFFFFFF, 0, 0xF000000),
+            (Edition.CYCLE_USED, 7, 0x1000008, 0x1000000),
+            (Edition.CYCLE_USED, 0xFFFFFFF, 0, 0),
+            (Edition.CYCLE_USED, 0xFFFFFFF, 2, 2),
+            (Edition.CYCLE_USED, 7, 7, 0xFFFFFFF),
+            (Edition.CYCLE_USED, 0x1000000, 0xFFFFFF, 0xFFFFFFE),
+        ]:
+            settings = Settings(66, 3, 10, LIMIT, edition=edition)
+            idle = Multiplexer(settings).idle()
+            first, second = [with_count(idle, octets_of(edition, number)) for number in [last, count]]
+            extractor = Extractor(settings)
+            self.assertEqual(extractor.feed(first), [Entered(last, False, 0, 0, Reason.NONE)])
+            reason = Reason.LOST if lost else Reason.NONE
+            self.assertEqual(extractor.feed(second), [Entered(count, False, lost, 0, reason)])
+            self.assertEqual(judge(settings, [first, second]).fault, 1 if lost else None)
+            reader = BitReader(BitSettings(66, 3, 1, edition=edition))
+            told = [reader.read(with_count(of_bits, octets_of(edition, number))) for number in [last, count]]
+            self.assertEqual([(bits.count, bits.lost) for bits in told], [(last, False), (count, bool(lost))])
+
+    def test_editions_with_trailers(self) -> None:
+        settings = Settings(66, 3, 10, LIMIT, trailer=True, edition=Edition.CYCLE_USED)
+        first, second = multiplex(settings, [SPACE, ENCAPSULATION])
+        self.assertEqual(first, with_count(FRAMES[0], b"\0\0\0\x40") + b"\x77\xa5")
+        self.assertEqual(second, with_count(FRAMES[1], b"\0\0\1\x40") + b"\x19\xb3")
+        self.assertTrue(judge(settings, [first, second]))
+        extractor = Extractor(settings)
+        unused = with_count(first, bytes.fromhex("BCDEF10A"))
+        self.refused(Refusal.TRAILER, extractor.feed, unused)
+        self.refused(Refusal.SPARE, extractor.feed, unused[:18] + b"\xcd\xf6")
+        used = with_count(FRAMES[0], bytes.fromhex("BCDEF14A")) + b"\x97\x26"
+        self.assertEqual(extractor.feed(used)[0], Entered(0xABCDEF1, False, 0, 0, Reason.NONE))
 
     def test_relay_tables(self) -> None:
         many = [(apid, 1) for apid in range(33)]
