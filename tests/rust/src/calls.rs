@@ -8,6 +8,7 @@
 //! or 0 where there is none. It alone may be there when the call is refused.
 
 use crate::reference::bitstream::{self, Reader, Writer};
+use crate::reference::edition::Edition;
 use crate::reference::extractor::{self, Part, Step};
 use crate::reference::frame::{Settings, HEAD};
 use crate::reference::judge::{self, Verdict};
@@ -17,8 +18,8 @@ use crate::reference::relay::{self, Entry, Table};
 use crate::reference::{space, wrap, Refusal};
 
 /// Entries of each array.
-pub const SETTINGS: usize = 6;
-pub const BIT_SETTINGS: usize = 5;
+pub const SETTINGS: usize = 7;
+pub const BIT_SETTINGS: usize = 6;
 pub const HEADER: usize = 7;
 pub const FORMED: usize = 1;
 pub const WRAPPED: usize = 2;
@@ -474,6 +475,11 @@ fn yes_or_no(value: u64) -> Result<bool, Refusal> {
     }
 }
 
+/// The edition of this number; any other is out of range.
+fn numbered_edition(value: u64) -> Result<Edition, Refusal> {
+    Edition::ALL.into_iter().find(|edition| edition.number() == value).ok_or(Refusal::Range)
+}
+
 /// A count in a record; one too great stays too great.
 fn fitted(value: u64) -> u32 {
     value.try_into().unwrap_or(u32::MAX)
@@ -493,7 +499,7 @@ fn read_space_fields(header: &[u64; SPACE_HEADER]) -> Result<space::Fields, Refu
 }
 
 fn read_settings(settings: &[u64; SETTINGS]) -> Result<Settings, Refusal> {
-    let [spacecraft, channel, zone, limit, fill, trailer] = *settings;
+    let [spacecraft, channel, zone, limit, fill, trailer, edition] = *settings;
     Ok(Settings {
         spacecraft: number(spacecraft)?,
         channel: number(channel)?,
@@ -501,17 +507,19 @@ fn read_settings(settings: &[u64; SETTINGS]) -> Result<Settings, Refusal> {
         limit: number(limit)?,
         fill: number(fill)?,
         trailer: yes_or_no(trailer)?,
+        edition: numbered_edition(edition)?,
     })
 }
 
 fn read_bit_settings(settings: &[u64; BIT_SETTINGS]) -> Result<bitstream::Settings, Refusal> {
-    let [spacecraft, channel, width, fill, trailer] = *settings;
+    let [spacecraft, channel, width, fill, trailer, edition] = *settings;
     Ok(bitstream::Settings {
         spacecraft: number(spacecraft)?,
         channel: number(channel)?,
         width: number(width)?,
         fill: number(fill)?,
         trailer: yes_or_no(trailer)?,
+        edition: numbered_edition(edition)?,
     })
 }
 

@@ -3,14 +3,19 @@
 //! Each case is named for what it shows. Where nothing else is said the channel
 //! is 3 of spacecraft 66, and the data octets are ones with which no packet can
 //! begin, so that a wrong start shows as damage. A run file has no place for the
-//! setting of trailers, so no frame has one.
+//! settings of trailers and of the edition, so no frame has a trailer, and all are
+//! of the former edition.
 
 use crate::generate;
 use crate::random::Random;
-use crate::reference::frame::{self, Settings, IDLE_ZONE, NO_START, WHEEL};
+use crate::reference::edition::Edition;
+use crate::reference::frame::{self, Settings, IDLE_ZONE, NO_START};
 use crate::reference::multiplexer;
 use crate::reference::runfile::{END, FRAME, SETUP};
 use crate::reference::space;
+
+/// Counts run round a wheel of this many.
+const WHEEL: u32 = Edition::Former.wheel();
 
 /// A run file and its name.
 #[derive(Clone, Debug)]
@@ -63,7 +68,8 @@ impl From<Run> for Vec<u8> {
 }
 
 fn channel(zone: usize, limit: usize) -> Settings {
-    Settings { spacecraft: 66, channel: 3, zone, limit, fill: 0x55, trailer: false }
+    let (fill, trailer, edition) = (0x55, false, Edition::Former);
+    Settings { spacecraft: 66, channel: 3, zone, limit, fill, trailer, edition }
 }
 
 pub fn setup_record(settings: &Settings) -> Vec<u8> {
@@ -885,8 +891,8 @@ fn verdicts(cases: &mut Cases) {
 
 /// Setups at the edges of their ranges.
 fn setups(cases: &mut Cases) {
-    let of = |spacecraft, channel, zone, limit| {
-        let run = Run::of(Settings { spacecraft, channel, zone, limit, fill: 0, trailer: false });
+    let of = |spacecraft, number, zone, limit| {
+        let run = Run::of(Settings { spacecraft, channel: number, ..channel(zone, limit) });
         run.frame(0, 0, &vec![0xE0; zone]).end()
     };
     cases.add("setup-all-least", of(0, 0, 1, 7));
@@ -938,8 +944,8 @@ fn bad_records(cases: &mut Cases) {
     cases.add("bad-setup-after-the-end", run().end().octets(&setup).end());
     cases.add("bad-record-after-a-fault", run().frame(0, 3, &zone).frame(9, 0, &zone).octets(&[9]));
 
-    let of = |spacecraft, channel, zone, limit| {
-        Run::of(Settings { spacecraft, channel, zone, limit, fill: 0, trailer: false }).end()
+    let of = |spacecraft, number, zone, limit| {
+        Run::of(Settings { spacecraft, channel: number, ..channel(zone, limit) }).end()
     };
     cases.add("bad-setup-channel-63", of(66, 63, 6, 64));
     cases.add("bad-setup-channel-64", of(66, 64, 6, 64));
@@ -964,14 +970,14 @@ fn random_runs(cases: &mut Cases) {
         let settings = Settings {
             zone: random.within(1, 24),
             limit: random.within(24, 60),
-            ..generate::settings_without_trailer(&mut random)
+            ..generate::run_file_settings(&mut random)
         };
         let mut frames = Vec::new();
         while frames.len() < 8 {
             frames = generate::run(&mut random, &settings, true).frames;
         }
         for _ in 0..seed % 5 {
-            generate::spoil(&mut random, &settings, &mut frames);
+            generate::spoil_frames(&mut random, &settings, &mut frames);
         }
         frames.retain(|frame| frame.len() == settings.frame_length());
         cases.add(format!("random-{seed:02}"), Run::of(settings).frames(&frames).end());

@@ -1,23 +1,33 @@
 //! Generators: settings, packets, runs that conform, relay tables, and ways to spoil them, damaged
-//! headers, frames of bits and the trailers of frames.
+//! headers, frames of bits, and the signalling octets and trailers of frames.
 
 use crate::calls::{
     BIT_READER, BIT_SETTINGS, EXTRACTOR, JUDGE, MUX, RELAY, SETTINGS, SPACE_HEADER,
 };
 use crate::random::Random;
-use crate::reference::frame::{self, Settings, HEAD, IDLE_ZONE, NO_START, WHEEL};
+use crate::reference::bitstream;
+use crate::reference::edition::Edition;
+use crate::reference::frame::{self, Settings, HEAD, IDLE_ZONE, NO_START};
 use crate::reference::multiplexer;
 use crate::reference::packet::{IDLE_APID, LONGEST_HEADER};
 use crate::reference::space;
 use crate::reference::trailer::{self, remainder, TRAILER};
 
-/// Settings in range, half of them with trailers.
+/// Settings in range of any edition, half of them with trailers.
 pub fn settings(random: &mut Random) -> Settings {
-    Settings { trailer: random.once_in(2), ..settings_without_trailer(random) }
+    let (trailer, edition) = (random.once_in(2), edition(random));
+    Settings { trailer, edition, ..run_file_settings(random) }
 }
 
-/// Settings in range: every small zone, some great ones, limits at both ends.
-pub fn settings_without_trailer(random: &mut Random) -> Settings {
+/// An edition, half the time the one whose counts are wider.
+fn edition(random: &mut Random) -> Edition {
+    let [former, unused, used] = Edition::ALL;
+    random.pick(&[former, unused, used, used])
+}
+
+/// Settings in range that a run file can state: every small zone, some great ones, limits at both
+/// ends; no trailers, and the former edition.
+pub fn run_file_settings(random: &mut Random) -> Settings {
     let zone = match random.within(1, 20) {
         1 => random.pick(&[1, 2, 6, 7, 8, 2_045, 2_046]),
         2 => random.within(41, 2_046),
@@ -40,13 +50,46 @@ pub fn settings_without_trailer(random: &mut Random) -> Settings {
         limit,
         fill: random.octet(),
         trailer: false,
+        edition: Edition::Former,
     }
 }
 
 /// The settings as numbers.
 pub fn settings_numbers(settings: &Settings) -> [u64; SETTINGS] {
-    let Settings { spacecraft, channel, zone, limit, fill, trailer } = *settings;
-    [spacecraft.into(), channel.into(), zone as u64, limit as u64, fill.into(), trailer.into()]
+    let Settings { spacecraft, channel, zone, limit, fill, trailer, edition } = *settings;
+    [
+        spacecraft.into(),
+        channel.into(),
+        zone as u64,
+        limit as u64,
+        fill.into(),
+        trailer.into(),
+        edition.number(),
+    ]
+}
+
+/// Settings of a channel of bits in range: every small zone and some great ones, any edition, half
+/// of them with trailers.
+pub fn bit_settings(random: &mut Random) -> bitstream::Settings {
+    let width = match random.within(1, 8) {
+        1 => random.pick(&[1, 2, 2_046, 2_047]),
+        2 => random.within(41, 2_047),
+        _ => random.within(1, 40),
+    };
+    bitstream::Settings {
+        spacecraft: random.octet(),
+        channel: random.within(0, 62) as u8,
+        width,
+        fill: random.octet(),
+        trailer: random.once_in(2),
+        edition: edition(random),
+    }
+}
+
+/// The settings of a channel of bits as numbers.
+pub fn bit_settings_numbers(settings: &bitstream::Settings) -> [u64; BIT_SETTINGS] {
+    let bitstream::Settings { spacecraft, channel, width, fill, trailer, edition } = *settings;
+    [spacecraft.into(), channel.into(), width as u64, fill.into(), trailer.into(), edition.number()]
 }
 
 /// Settings of which one is out of range, or at the edge of it.
@@ -54,13 +97,14 @@ pub fn settings_at_an_edge(random: &mut Random, settings: &Settings) -> [u64; SE
     let mut numbers = settings_numbers(settings);
     let huge = random.pick(&[u64::MAX, 1 << 32, (1 << 32) + 7, 1 << 16]);
     let least = settings.zone.max(7) as u64;
-    match random.within(0, 5) {
+    match random.within(0, 7) {
         0 => numbers[0] = random.pick(&[255, 256, huge]),
         1 => numbers[1] = random.pick(&[62, 63, 64, 255, 256, huge]),
         2 => numbers[2] = random.pick(&[0, 2_046, 2_047, numbers[3], numbers[3] + 1, huge]),
         3 => numbers[3] = random.pick(&[0, 6, least - 1, least, 65_542, 65_543, huge]),
         4 => numbers[4] = random.pick(&[255, 256, huge]),
-        _ => numbers[5] = other_trailer(random, numbers[5]),
+        5 => numbers[5] = other_trailer(random, numbers[5]),
+        _ => numbers[6] = other_edition(random, numbers[6]),
     }
     numbers
 }
@@ -73,19 +117,27 @@ fn other_trailer(random: &mut Random, number: u64) -> u64 {
     random.pick(&[other, other, alike, alike, 2, 255, u64::MAX])
 }
 
+/// Another edition, or what is none, at times one that looks like an edition in fewer bits.
+fn other_edition(random: &mut Random, number: u64) -> u64 {
+    let alike = number.wrapping_add(random.pick(&[4, 1 << 8, 1 << 16, 1 << 32]));
+    let other = (number + random.within(1, 2) as u64) % 3;
+    random.pick(&[other, other, other, alike, alike, 3, 4, 255, u64::MAX])
+}
+
 /// Bitstream settings of which one is out of range, or at the edge of it.
 pub fn bit_settings_at_an_edge(
     random: &mut Random,
-    numbers: [u64; BIT_SETTINGS],
+    settings: &bitstream::Settings,
 ) -> [u64; BIT_SETTINGS] {
-    let mut numbers = numbers;
+    let mut numbers = bit_settings_numbers(settings);
     let huge = random.pick(&[u64::MAX, 1 << 32, (1 << 32) + 7, 1 << 16]);
-    match random.within(0, 4) {
+    match random.within(0, 6) {
         0 => numbers[0] = random.pick(&[255, 256, huge]),
         1 => numbers[1] = random.pick(&[62, 63, 64, 255, 256, huge]),
         2 => numbers[2] = random.pick(&[0, 1, 2_047, 2_048, huge]),
         3 => numbers[3] = random.pick(&[255, 256, huge]),
-        _ => numbers[4] = other_trailer(random, numbers[4]),
+        4 => numbers[4] = other_trailer(random, numbers[4]),
+        _ => numbers[5] = other_edition(random, numbers[5]),
     }
     numbers
 }
@@ -425,8 +477,7 @@ pub fn run(random: &mut Random, settings: &Settings, open: bool) -> Run {
     let mut run = Run { frames: Vec::new(), packets: Vec::new() };
     let mut record = multiplexer::Record::START;
     if !random.once_in(3) {
-        let any = random.any() as u32 % WHEEL;
-        record.count = random.pick(&[WHEEL - 1, WHEEL - 2, any]);
+        record.count = first_count(random, settings.edition);
     }
     let mut frame = random.octets(settings.frame_length());
     for _ in 0..random.within(0, 10) {
@@ -454,6 +505,26 @@ pub fn run(random: &mut Random, settings: &Settings, open: bool) -> Run {
         flush(settings, &mut record, &mut frame, &mut run);
     }
     run
+}
+
+/// A count that is often near a turn.
+fn first_count(random: &mut Random, edition: Edition) -> u32 {
+    let any = random.any() as u32 % edition.wheel();
+    let near = [1, 2].map(|back| before_a_turn(random, edition, back));
+    random.pick(&[near[0], near[1], any])
+}
+
+/// The count so many frames before a turn: that of the wheel, or one of the 24 bits below a cycle.
+pub fn before_a_turn(random: &mut Random, edition: Edition, back: u32) -> u32 {
+    let wheel = edition.wheel();
+    let turn = match edition {
+        Edition::Former | Edition::CycleUnused => wheel,
+        Edition::CycleUsed => {
+            let cycles = random.within(1, 16) as u32;
+            random.pick(&[1 << 24, cycles << 24, wheel, wheel])
+        }
+    };
+    turn - back
 }
 
 fn flush(settings: &Settings, record: &mut multiplexer::Record, frame: &mut [u8], run: &mut Run) {
@@ -505,17 +576,39 @@ pub fn damage_header(random: &mut Random, settings: &Settings, run: &mut Run) {
 /// Spoils a run in one way. Frames may come out with another length. Where they have trailers, a
 /// frame that is changed mostly has its trailer made right again.
 pub fn spoil(random: &mut Random, settings: &Settings, frames: &mut Vec<Vec<u8>>) {
-    if !settings.trailer {
+    if frames.is_empty() {
         return spoil_frames(random, settings, frames);
     }
-    if !frames.is_empty() && random.once_in(4) {
-        let place = random.within(0, frames.len() - 1);
+    let place = random.within(0, frames.len() - 1);
+    if settings.trailer && random.once_in(4) {
         return spoil_trailer(random, &mut frames[place]);
     }
     let before = frames.clone();
-    spoil_frames(random, settings, frames);
-    if !random.once_in(4) {
+    if random.once_in(6) {
+        spoil_signalling(random, &mut frames[place]);
+    } else {
+        spoil_frames(random, settings, frames);
+    }
+    if settings.trailer && !random.once_in(4) {
         frames.iter_mut().filter(|frame| !before.contains(frame)).for_each(|frame| seal(frame));
+    }
+}
+
+/// Spoils the signalling octet of a frame in one way, behind the replay flag. Where the cycle is
+/// used, the frame may come out as one of another count.
+pub fn spoil_signalling(random: &mut Random, frame: &mut [u8]) {
+    let any = random.octet();
+    if let Some(octet) = frame.get_mut(5) {
+        *octet = match random.within(1, 10) {
+            1..=5 => *octet ^ 1 << random.within(0, 6),
+            // The usage or the cycle of another frame.
+            6 => *octet ^ 0x40,
+            7 => *octet & 0xF0 | any & 0x0F,
+            // As on a channel of another edition.
+            8 => *octet & 0x80,
+            9 => *octet & 0x80 | 0x40 | any & 0x0F,
+            _ => *octet & 0x80 | any & 0x7F,
+        };
     }
 }
 
@@ -556,24 +649,25 @@ pub fn spoil_trailer(random: &mut Random, frame: &mut Vec<u8>) {
     }
 }
 
-/// Spoils a frame of bits with a zone of this width: in its count, in another way, in both or in
-/// neither. Then its trailer, if it has one, is made right again, or spoilt too, or left.
-pub fn spoil_bits(random: &mut Random, width: usize, trailer: bool, frame: &mut Vec<u8>) {
+/// Spoils a frame of bits: in its count, in another way, in both or in neither. Then its trailer, if
+/// it has one, is made right again, or spoilt too, or left.
+pub fn spoil_bits(random: &mut Random, settings: &bitstream::Settings, frame: &mut Vec<u8>) {
     if random.once_in(2) {
-        set_count(frame, random.any() as u32);
+        set_count(settings.edition, frame, random.any() as u32);
     }
-    match random.within(1, 8) {
+    match random.within(1, 10) {
         1..=3 => flip(random, frame, 0, HEAD),
         4 | 5 => {
-            let edge = 8 * width as u16;
+            let edge = 8 * settings.width as u16;
             let pointer = random.pick(&[edge - 2, edge - 1, edge, 16_381, 16_382, 16_383]);
             set_pointer(frame, pointer);
         }
         6 => frame.push(0),
         7 => frame.truncate(frame.len().saturating_sub(1)),
+        8 | 9 => spoil_signalling(random, frame),
         _ => {}
     }
-    if trailer {
+    if settings.trailer {
         match random.within(1, 5) {
             1 => {}
             2 | 3 => spoil_trailer(random, frame),
@@ -634,8 +728,9 @@ fn turned(octets: &[u8]) -> Vec<u8> {
     octets.iter().map(|octet| octet.reverse_bits()).collect()
 }
 
-/// The ways to spoil a run that leave trailers out of account.
-fn spoil_frames(random: &mut Random, settings: &Settings, frames: &mut Vec<Vec<u8>>) {
+/// The ways to spoil a run that leave trailers, and what an edition has in the signalling octet, out
+/// of account.
+pub fn spoil_frames(random: &mut Random, settings: &Settings, frames: &mut Vec<Vec<u8>>) {
     if frames.is_empty() {
         frames.push(random.octets(settings.frame_length()));
         return;
@@ -654,11 +749,11 @@ fn spoil_frames(random: &mut Random, settings: &Settings, frames: &mut Vec<Vec<u
         // A gap that the counts do not show.
         7 => {
             frames.remove(place);
-            renumber(frames);
+            renumber(settings.edition, frames);
         }
         8 => {
             frames.insert(place, idle_frame(random, settings));
-            renumber(frames);
+            renumber(settings.edition, frames);
         }
         9 => frames.insert(place, idle_frame(random, settings)),
         // Damage.
@@ -677,7 +772,7 @@ fn spoil_frames(random: &mut Random, settings: &Settings, frames: &mut Vec<Vec<u
             let pointer = some_pointer(random, settings, &frames[place]);
             set_pointer(&mut frames[place], pointer);
         }
-        19 => set_count(&mut frames[place], random.any() as u32 % WHEEL),
+        19 => set_count(settings.edition, &mut frames[place], random.any() as u32),
         20 => {
             if let Some(octet) = frames[place].get_mut(5) {
                 *octet ^= 0x80;
@@ -700,20 +795,26 @@ fn spoil_frames(random: &mut Random, settings: &Settings, frames: &mut Vec<Vec<u
 /// A frame with an idle zone of any octets.
 fn idle_frame(random: &mut Random, settings: &Settings) -> Vec<u8> {
     let mut frame = random.octets(settings.frame_length());
-    frame::write(settings, random.any() as u32 % WHEEL, IDLE_ZONE, &mut frame);
+    let count = random.any() as u32 % settings.edition.wheel();
+    frame::write(settings, count, IDLE_ZONE, &mut frame);
     frame
 }
 
 /// Gives the frames counts that rise by one.
-fn renumber(frames: &mut [Vec<u8>]) {
+fn renumber(edition: Edition, frames: &mut [Vec<u8>]) {
     for (count, frame) in frames.iter_mut().enumerate() {
-        set_count(frame, count as u32);
+        set_count(edition, frame, count as u32);
     }
 }
 
-fn set_count(frame: &mut [u8], count: u32) {
+/// Gives a frame this count, as much of it as the edition has bits for.
+fn set_count(edition: Edition, frame: &mut [u8], count: u32) {
+    let [high, field @ ..] = count.to_be_bytes();
     if let Some(octets) = frame.get_mut(2..5) {
-        octets.copy_from_slice(&count.to_be_bytes()[1..]);
+        octets.copy_from_slice(&field);
+    }
+    if let (Edition::CycleUsed, Some(octet)) = (edition, frame.get_mut(5)) {
+        *octet = *octet & 0xF0 | high & 0x0F;
     }
 }
 
@@ -755,9 +856,25 @@ fn flip(random: &mut Random, frame: &mut [u8], least: usize, most: usize) {
 fn number(random: &mut Random, edges: &[u64]) -> u64 {
     match random.within(1, 12) {
         1 => random.any(),
-        2 => random.pick(&[u64::MAX, 1 << 24, (1 << 24) - 1, 1 << 32, 1 << 16]),
+        2 => random.pick(&[
+            u64::MAX,
+            1 << 16,
+            (1 << 24) - 1,
+            1 << 24,
+            (1 << 28) - 1,
+            1 << 28,
+            1 << 32,
+        ]),
         _ => random.pick(edges),
     }
+}
+
+/// A count for a record, mostly on the wheel of this edition.
+pub fn some_count(random: &mut Random, edition: Edition) -> u64 {
+    let wheel = u64::from(edition.wheel());
+    let (any, last) = (random.any() % wheel, wheel - 1);
+    let (short, long) = (1 << 24, 1 << 28);
+    number(random, &[0, any, any, any, any, last, last, short - 1, short, long - 1, long])
 }
 
 /// A multiplexer's record, reachable or not.
@@ -768,7 +885,7 @@ pub fn mux_record(random: &mut Random, settings: &Settings) -> [u64; MUX] {
     let first =
         number(random, &[0, 2_047, 2_047, 2_046, filled, filled.wrapping_sub(1), any % zone]);
     let taken = number(random, &[0, 0, 0, 1, 7, any % limit, limit - 1, limit]);
-    let count = number(random, &[0, 1, any % (1 << 24), (1 << 24) - 1]);
+    let count = some_count(random, settings.edition);
     match random.within(1, 4) {
         1 => [count, 0, 2_047, taken],
         2 => [count, filled, 2_047, 0],
@@ -785,7 +902,7 @@ pub fn extractor_record(
 ) -> [u64; EXTRACTOR] {
     let zone = settings.zone as u64;
     let any = random.any();
-    let last = number(random, &[0, any % (1 << 24), (1 << 24) - 1]);
+    let last = some_count(random, settings.edition);
     let held = some_held(random, settings, store);
     let at = number(random, &[0, 0, any % zone, zone - 1, zone, zone + 1]);
     match random.within(0, 12) {
@@ -828,7 +945,7 @@ pub fn judge_record(random: &mut Random, settings: &Settings, store: usize) -> [
             most + 1,
         ],
     );
-    let last = number(random, &[0, any % most, most - 1]);
+    let last = some_count(random, settings.edition);
     let at = number(random, &[0, tally.wrapping_sub(1), tally.wrapping_sub(1), tally, any % most]);
     match random.within(0, 9) {
         0 => [0, 0, 0, 0],
@@ -845,10 +962,12 @@ pub fn judge_record(random: &mut Random, settings: &Settings, store: usize) -> [
 }
 
 /// A record of a reader of bits, reachable or not, before a frame of this count or any other.
-pub fn bit_reader_record(random: &mut Random, count: u64) -> [u64; BIT_READER] {
-    let (any, wheel) = (random.any(), u64::from(WHEEL));
-    let before = count.wrapping_sub(1) % wheel;
-    let last = number(random, &[before, before, count, any % wheel, wheel - 1]);
+pub fn bit_reader_record(random: &mut Random, edition: Edition, count: u64) -> [u64; BIT_READER] {
+    let before = count.wrapping_sub(1) % u64::from(edition.wheel());
+    let any = some_count(random, edition);
+    // At times it comes before the frame in 24 bits alone.
+    let before_below = before ^ 1 << random.pick(&[24, 27]);
+    let last = number(random, &[before, before, before, count, any, any, before_below]);
     let waiting = random.pick(&[0, 1]);
     // What is no flag, at times what looks like one in fewer bits.
     let alike = waiting + random.pick(&[2, 1 << 8, 1 << 16, 1 << 32]);

@@ -6,6 +6,7 @@
 //! the one that comes first in the call's order.
 
 use crate::calls::{self, Calls};
+use crate::reference::edition::Edition;
 use crate::reference::trailer;
 
 /// A call and its refusals in the order of the checks.
@@ -65,15 +66,44 @@ pub struct Arguments {
     pub answer: Vec<u64>,
 }
 
-const TOO_GREAT: u64 = 1 << 24;
+/// The manner of a channel, and of refusal 6 on it.
+#[derive(Clone, Copy, Debug)]
+pub struct Manner {
+    /// Whether frames have trailers.
+    pub trailer: bool,
+    pub edition: Edition,
+    /// The bits of a frame that call for 6: these of the signalling octet, or if none a spare one
+    /// before the pointer.
+    pub wrong_bits: u8,
+}
 
-/// Arguments for a call with these refusals in them, on a channel whose frames have trailers or
-/// have none.
-pub fn arguments(call: &str, refusals: &[u64], trailer: bool) -> Arguments {
+/// What may be the wrong bits of a frame: none of the signalling octet, each that must not be
+/// changed in this edition, and all of them.
+pub fn wrong_bits(edition: Edition) -> &'static [u8] {
+    match edition {
+        Edition::Former | Edition::CycleUnused => {
+            &[0, 0x40, 0x20, 0x10, 0x08, 0x04, 0x02, 0x01, 0x7F]
+        }
+        Edition::CycleUsed => &[0, 0x40, 0x20, 0x10, 0x70],
+    }
+}
+
+/// The tally of a run to which no frame can be added.
+const FULL_RUN: u64 = 1 << 24;
+
+/// Arguments for a call with these refusals in them, in this manner.
+pub fn arguments(call: &str, refusals: &[u64], manner: Manner) -> Arguments {
+    let Manner { trailer, edition, .. } = manner;
     let packet = vec![0xEA, 0x00, 0x00, 0x07, 0xA1, 0xA2, 0xA3];
-    let channel = vec![66, 3, 10, 64, 0x55, trailer.into()];
-    let bit_channel = vec![66, 3, 10, 0x55, trailer.into()];
-    let mut frame = [&[0x50, 0x83, 0, 0, 5, 0, 0, 0][..], &[0xE0; 10]].concat();
+    let channel = vec![66, 3, 10, 64, 0x55, trailer.into(), edition.number()];
+    let bit_channel = vec![66, 3, 10, 0x55, trailer.into(), edition.number()];
+    // Where there is a cycle it is 9.
+    let (signalling, cycle) = match edition {
+        Edition::Former | Edition::CycleUnused => (0, 0),
+        Edition::CycleUsed => (0x49, 9 << 24),
+    };
+    let (last, count) = (cycle + 4, cycle + 5);
+    let mut frame = [&[0x50, 0x83, 0, 0, 5, signalling, 0, 0][..], &[0xE0; 10]].concat();
     frame.resize(if trailer { 20 } else { 18 }, 0);
     let written = vec![0; frame.len()];
     let table = [&[2, 5, 7, 5, 9][..], &[0; calls::RELAY - 5]].concat();
@@ -87,16 +117,16 @@ pub fn arguments(call: &str, refusals: &[u64], trailer: bool) -> Arguments {
         "write_space" => (vec![0, 0, 0, 5, 3, 0, 1], vec![], vec![], vec![0; 6], 0),
         "unit_part" => (vec![2, 0, 4, 3, 0], vec![], packet, vec![], calls::UNIT),
         "mux_begin" => (vec![], vec![7; 4], vec![], vec![], 0),
-        "mux_put" => (channel, vec![5, 0, 2_047, 0], packet, written, calls::PUT),
-        "mux_flush" => (channel, vec![5, 0, 2_047, 0], vec![], written, calls::FLUSH),
-        "mux_idle" => (channel, vec![5, 0, 2_047, 0], vec![], written, 0),
-        "extractor_enter" => (channel, vec![2, 4, 0, 0], frame, vec![0; 64], calls::ENTERED),
-        "extractor_step" => (channel, vec![3, 5, 0, 0], frame, vec![0; 64], calls::STEP),
+        "mux_put" => (channel, vec![count, 0, 2_047, 0], packet, written, calls::PUT),
+        "mux_flush" => (channel, vec![count, 0, 2_047, 0], vec![], written, calls::FLUSH),
+        "mux_idle" => (channel, vec![count, 0, 2_047, 0], vec![], written, 0),
+        "extractor_enter" => (channel, vec![2, last, 0, 0], frame, vec![0; 64], calls::ENTERED),
+        "extractor_step" => (channel, vec![3, count, 0, 0], frame, vec![0; 64], calls::STEP),
         "show" => (vec![1, 1, 8, 10, 0], vec![], frame, vec![0; 64], calls::SHOWN),
-        "judge_frame" => (channel, vec![1, 5, 4, 0], frame, vec![0; 64], 0),
-        "judge_close" => (channel, vec![1, 5, 4, 0], vec![], vec![0; 64], calls::VERDICT),
-        "bits_write" => ([bit_channel, vec![13]].concat(), vec![5], vec![0xA1; 2], written, 0),
-        "bits_read" => (bit_channel, vec![1, 4, 1], frame, vec![], calls::BITS),
+        "judge_frame" => (channel, vec![1, 5, last, 0], frame, vec![0; 64], 0),
+        "judge_close" => (channel, vec![1, 5, last, 0], vec![], vec![0; 64], calls::VERDICT),
+        "bits_write" => ([bit_channel, vec![13]].concat(), vec![count], vec![0xA1; 2], written, 0),
+        "bits_read" => (bit_channel, vec![1, last, 1], frame, vec![], calls::BITS),
         "relay_load" => (vec![6, 1, 5, 255], table, vec![], vec![], 0),
         "relay_route" => (vec![64], table, space, vec![0; 2], calls::ROUTED),
         _ => panic!("no call {call}"),
@@ -104,7 +134,7 @@ pub fn arguments(call: &str, refusals: &[u64], trailer: bool) -> Arguments {
     let answer = vec![u64::MAX; answer];
     let mut arguments = Arguments { numbers, record, octets, buffer, answer };
     for &refusal in refusals.iter().filter(|&&refusal| refusal != WRONG_TRAILER) {
-        change(call, refusal, &mut arguments);
+        change(call, refusal, manner, &mut arguments);
     }
     // The frame has its other changes now. That of a step keeps a wrong trailer.
     if trailer && matches!(call, "extractor_enter" | "judge_frame" | "bits_read") {
@@ -117,8 +147,9 @@ pub fn arguments(call: &str, refusals: &[u64], trailer: bool) -> Arguments {
     arguments
 }
 
-fn change(call: &str, refusal: u64, arguments: &mut Arguments) {
+fn change(call: &str, refusal: u64, manner: Manner, arguments: &mut Arguments) {
     let Arguments { numbers, record, octets, buffer, .. } = arguments;
+    let off_the_wheel = manner.edition.wheel().into();
     match (refusal, call) {
         (1, "read_header" | "well_formed" | "unwrap" | "relay_route") => numbers[0] = 6,
         (1, "wrap") => numbers[1] = 0,
@@ -128,19 +159,21 @@ fn change(call: &str, refusal: u64, arguments: &mut Arguments) {
         (2, _) => {
             buffer.pop();
         }
-        (10, "extractor_enter" | "extractor_step" | "bits_read") => record[1] = TOO_GREAT,
-        (10, "judge_frame" | "judge_close") => record[2] = TOO_GREAT,
-        (10, _) => record[0] = TOO_GREAT,
+        // A relay's table has no count, but no such number of entries either.
+        (10, "extractor_enter" | "extractor_step" | "bits_read") => record[1] = off_the_wheel,
+        (10, "judge_frame" | "judge_close") => record[2] = off_the_wheel,
+        (10, _) => record[0] = off_the_wheel,
         // More is taken of the packet than it has; or a packet is open.
         (9, "mux_put" | "mux_flush" | "mux_idle") => record[3] = 20,
         (9, "extractor_enter") => record[0] = 3,
         (9, _) => record[0] = 2,
-        (11, _) => record[1] = TOO_GREAT,
+        (11, _) => record[1] = FULL_RUN,
         (12, _) => numbers[0] = 2_047,
         (3, _) => octets.push(0),
         (4, _) => octets[0] ^= 0x80,
         (5, _) => octets[1] ^= 0x01,
         (6, "unwrap") => octets[1] = 0x01,
+        (6, _) if manner.wrong_bits != 0 => octets[5] ^= manner.wrong_bits,
         (6, "extractor_enter") => octets[6] |= 0x08,
         (6, _) => octets[6] |= 0x40,
         (7, "extractor_enter") => octets[7] = 10,

@@ -100,7 +100,7 @@ impl Extractor {
     /// Compares a frame with what came before it, and drops what does not go on in it.
     fn enter(&mut self, head: Head, joined: Look, zone: usize) -> Entered {
         let Head { count, replay, pointer } = head;
-        let lost = self.last.map_or(0, |last| frame::missing(last, count));
+        let lost = self.last.map_or(0, |last| self.settings.edition.missing(last, count));
         self.last = Some(count);
         let reason = if lost != 0 {
             Reason::Gap

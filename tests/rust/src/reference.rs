@@ -6,6 +6,7 @@
 //! refused call changes nothing.
 
 pub mod bitstream;
+pub mod edition;
 pub mod extractor;
 pub mod frame;
 pub mod judge;
@@ -32,7 +33,8 @@ pub enum Refusal {
     Version,
     /// Another spacecraft or channel.
     Channel,
-    /// A spare bit is 1, or a field that unwrapping wants to be 0 is not.
+    /// A spare bit is 1, or the count usage or cycle is not one of the channel's edition; or a
+    /// field that unwrapping wants to be 0 is not.
     Spare,
     /// A pointer that cannot be.
     Pointer,

@@ -9,10 +9,11 @@ use std::fmt;
 
 use crate::calls::{self, Calls, Reference};
 use crate::generate;
-use crate::orders::{self, Arguments, ORDERS};
+use crate::orders::{self, Arguments, Manner, ORDERS};
 use crate::random::Random;
 use crate::reference::bitstream::octets_for;
-use crate::reference::frame::{Settings, HEAD, WHEEL};
+use crate::reference::edition::Edition;
+use crate::reference::frame::{Settings, HEAD};
 use crate::reference::packet::{self, Look, LIMITS};
 use crate::reference::relay::MOST_ENTRIES;
 use crate::reference::trailer::TRAILER;
@@ -115,6 +116,52 @@ impl Pair<'_> {
     fn note(&mut self, what: &'static str, number: u64) {
         *self.tally.said.entry((what, number)).or_default() += 1;
     }
+
+    /// Notes that the wheel turns behind a count that is written, by its edition, or that a cycle
+    /// begins there: 1 is the first, and 2 stands for all others.
+    fn note_written(&mut self, edition: Edition, count: u64, next: u64) {
+        if next < count {
+            self.note("wheel turns written in edition", edition.number());
+        } else if next > count && next % BELOW_CYCLE == 0 {
+            self.note("cycle begins written", (next / BELOW_CYCLE).min(2));
+        }
+    }
+
+    /// The same before a count that is read; or that cycles are lost there, 1 or more, and nothing of
+    /// it shows in 24 bits.
+    fn note_read(&mut self, edition: Edition, last: u64, count: u64) {
+        let wheel = u64::from(edition.wheel());
+        let lost = (wheel + count - last - 1) % wheel;
+        if lost != 0 && lost % BELOW_CYCLE == 0 {
+            self.note("only cycles lost", (lost / BELOW_CYCLE).min(2));
+        } else if lost == 0 && count == 0 {
+            self.note("wheel turns in edition", edition.number());
+        } else if lost == 0 && count % BELOW_CYCLE == 0 {
+            self.note("cycle begins", (count / BELOW_CYCLE).min(2));
+        }
+    }
+
+    /// Notes the bit of the signalling octet that alone is wrong in a frame refused by 6, if there is
+    /// one.
+    fn note_wrong_signalling(&mut self, edition: Edition, frame: &[u8]) {
+        let (what, wrong) = match edition {
+            Edition::Former => ("wrong bit of edition 0", frame[5] & 0x7F),
+            Edition::CycleUnused => ("wrong bit of edition 1", frame[5] & 0x7F),
+            Edition::CycleUsed => ("wrong bit of edition 2", (frame[5] ^ 0x40) & 0x70),
+        };
+        if wrong.is_power_of_two() {
+            self.note(what, wrong.into());
+        }
+    }
+}
+
+/// The count's own field has so many counts, above which a cycle may stand.
+const BELOW_CYCLE: u64 = 1 << 24;
+
+/// The edition of settings in range.
+fn edition_of(numbers: &[u64]) -> Edition {
+    let last = numbers.last().expect("settings have numbers");
+    Edition::ALL[*last as usize]
 }
 
 /// The length of a buffer and its first octets.
@@ -186,6 +233,15 @@ fn refused_for(limit: u64, packet: &[u8]) -> u64 {
         Ok(Look::Cut) => 6,
         Ok(Look::Whole(header)) if header.total != packet.len() => 7,
         _ => 8,
+    }
+}
+
+/// These settings, or at times such as read the frames of another edition.
+fn some_reader(random: &mut Random, settings: Settings) -> Settings {
+    if random.once_in(15) {
+        Settings { edition: random.pick(&Edition::ALL), ..settings }
+    } else {
+        settings
     }
 }
 
@@ -365,7 +421,8 @@ fn multiplexing(pair: &mut Pair, random: &mut Random) -> Result<(), Difference> 
     let mut lent = Lent { record, buffer: random.octets(size), answer: vec![] };
     pair.both("mux_begin", &[], &[], &mut lent, |calls, lent| calls.mux_begin(&mut lent.record))?;
     if random.once_in(2) {
-        lent.record[0] = u64::from(WHEEL) - random.within(1, 4) as u64;
+        let back = random.within(1, 4) as u32;
+        lent.record[0] = generate::before_a_turn(random, settings.edition, back).into();
     }
     let mut packet = generate::packet(random, &settings);
     for _ in 0..random.within(4, 60) {
@@ -416,12 +473,14 @@ fn put(
     lent: &mut Lent,
     packet: &[u8],
 ) -> Result<bool, Difference> {
+    let count = lent.record[0];
     lent.answer = answer(random, calls::PUT);
     let refusal = pair.both("mux_put", numbers, packet, lent, |calls, lent| {
         calls.mux_put(numbers, &mut lent.record, packet, &mut lent.buffer, &mut lent.answer)
     })?;
     if refusal == 0 {
         pair.note("full and taken", 2 * lent.answer[0] + lent.answer[1]);
+        pair.note_written(edition_of(numbers), count, lent.record[0]);
     } else if refusal == 8 {
         pair.note("put refused for", refused_for(numbers[3], packet));
     }
@@ -434,21 +493,27 @@ fn flush(
     numbers: &[u64],
     lent: &mut Lent,
 ) -> Result<(), Difference> {
+    let count = lent.record[0];
     lent.answer = answer(random, calls::FLUSH);
     let refusal = pair.both("mux_flush", numbers, &[], lent, |calls, lent| {
         calls.mux_flush(numbers, &mut lent.record, &mut lent.buffer, &mut lent.answer)
     })?;
     if refusal == 0 {
         pair.note("flush", lent.answer[0]);
+        pair.note_written(edition_of(numbers), count, lent.record[0]);
     }
     Ok(())
 }
 
 fn idle(pair: &mut Pair, numbers: &[u64], lent: &mut Lent) -> Result<(), Difference> {
+    let count = lent.record[0];
     lent.answer = vec![];
-    pair.both("mux_idle", numbers, &[], lent, |calls, lent| {
+    let refusal = pair.both("mux_idle", numbers, &[], lent, |calls, lent| {
         calls.mux_idle(numbers, &mut lent.record, &mut lent.buffer)
     })?;
+    if refusal == 0 {
+        pair.note_written(edition_of(numbers), count, lent.record[0]);
+    }
     Ok(())
 }
 
@@ -465,6 +530,7 @@ fn some_store(random: &mut Random, settings: &Settings) -> Vec<u8> {
 fn extracting(pair: &mut Pair, random: &mut Random) -> Result<(), Difference> {
     let settings = generate::settings(random);
     let frames = generate::some_run(random, &settings);
+    let settings = some_reader(random, settings);
     let mut lent = Lent {
         record: vec![0; calls::EXTRACTOR],
         buffer: some_store(random, &settings),
@@ -555,12 +621,22 @@ fn enter(
     lent: &mut Lent,
     frame: &[u8],
 ) -> Result<u64, Difference> {
+    let before = lent.record.clone();
     lent.answer = answer(random, calls::ENTERED);
     let refusal = pair.both("extractor_enter", numbers, frame, lent, |calls, lent| {
         calls.extractor_enter(numbers, &mut lent.record, &lent.buffer, frame, &mut lent.answer)
     })?;
-    if refusal == 0 && lent.answer[5] == 3 {
-        pair.note("damage at entering", lent.answer[6]);
+    match refusal {
+        0 => {
+            if before[0] != 0 {
+                pair.note_read(edition_of(numbers), before[1], lent.answer[1]);
+            }
+            if lent.answer[5] == 3 {
+                pair.note("damage at entering", lent.answer[6]);
+            }
+        }
+        6 => pair.note_wrong_signalling(edition_of(numbers), frame),
+        _ => {}
     }
     Ok(refusal)
 }
@@ -605,6 +681,7 @@ fn show(
 fn judging(pair: &mut Pair, random: &mut Random) -> Result<(), Difference> {
     let settings = generate::settings(random);
     let frames = generate::some_run(random, &settings);
+    let settings = some_reader(random, settings);
     let mut lent = Lent {
         record: vec![0; calls::JUDGE],
         buffer: some_store(random, &settings),
@@ -649,22 +726,15 @@ fn close(
 }
 
 fn bits(pair: &mut Pair, random: &mut Random) -> Result<(), Difference> {
-    let width = match random.within(1, 8) {
-        1 => random.pick(&[1, 2, 2_046, 2_047]),
-        2 => random.within(41, 2_047),
-        _ => random.within(1, 40),
-    };
-    let channel = random.within(0, 62) as u64;
-    let trailer = random.once_in(2);
-    let length = HEAD + width + if trailer { TRAILER } else { 0 };
-    let (spacecraft, fill) = (random.octet().into(), random.octet().into());
-    let settings = [spacecraft, channel, width as u64, fill, trailer.into()];
-    let mut writer = vec![random.any() % u64::from(WHEEL)];
+    let settings = generate::bit_settings(random);
+    let (width, edition) = (settings.width, settings.edition);
+    let mut writer = vec![random.any() % u64::from(edition.wheel())];
     if random.once_in(2) {
-        writer[0] = u64::from(WHEEL) - random.within(0, 4) as u64;
+        let back = random.within(0, 4) as u32;
+        writer[0] = generate::before_a_turn(random, edition, back).into();
     }
     let record = if random.once_in(6) {
-        generate::bit_reader_record(random, writer[0]).to_vec()
+        generate::bit_reader_record(random, edition, writer[0]).to_vec()
     } else {
         vec![0; calls::BIT_READER]
     };
@@ -681,31 +751,38 @@ fn bits(pair: &mut Pair, random: &mut Random) -> Result<(), Difference> {
         };
         let offered = room(random, octets_for(number));
         let offered = random.octets(offered);
-        let buffer = room(random, length);
-        let numbers = if random.once_in(25) {
-            generate::bit_settings_at_an_edge(random, settings)
+        let buffer = room(random, settings.frame_length());
+        let mut numbers = if random.once_in(25) {
+            generate::bit_settings_at_an_edge(random, &settings)
         } else {
-            settings
+            generate::bit_settings_numbers(&settings)
         };
         let n = if random.once_in(50) { u64::MAX } else { number as u64 };
         let count = writer[0];
         let mut lent = Lent { record: writer, buffer: random.octets(buffer), answer: vec![] };
-        pair.both("bits_write", &numbers, &offered, &mut lent, |calls, lent| {
-            calls.bits_write(&numbers, &mut lent.record, &offered, n, &mut lent.buffer)
-        })?;
+        if random.once_in(8) {
+            // Another writer, of any count, writes the same.
+            let record = vec![generate::some_count(random, edition)];
+            write_bits(pair, &numbers, &mut Lent { record, ..lent.clone() }, &offered, n)?;
+        }
+        write_bits(pair, &numbers, &mut lent, &offered, n)?;
         writer = lent.record;
 
         let mut frame = lent.buffer;
-        frame.truncate(length);
+        frame.truncate(settings.frame_length());
+        if random.once_in(15) {
+            // It is read on a channel of any edition.
+            numbers[5] = random.within(0, 2) as u64;
+        }
         match random.within(1, 9) {
             // It is lost; or a spoilt one comes before it, or in its place; or it comes twice.
             1 => continue,
             2 | 3 => {
                 let mut spoilt = frame.clone();
-                generate::spoil_bits(random, width, trailer, &mut spoilt);
+                generate::spoil_bits(random, &settings, &mut spoilt);
                 read_bits(pair, random, &numbers, &mut reader, &spoilt)?;
             }
-            4 | 5 => generate::spoil_bits(random, width, trailer, &mut frame),
+            4 | 5 => generate::spoil_bits(random, &settings, &mut frame),
             6 if random.once_in(2) => {
                 read_bits(pair, random, &numbers, &mut reader, &frame)?;
             }
@@ -714,10 +791,27 @@ fn bits(pair: &mut Pair, random: &mut Random) -> Result<(), Difference> {
         read_bits(pair, random, &numbers, &mut reader, &frame)?;
         if random.once_in(4) {
             // Another reader, of any record, reads it too.
-            let record = generate::bit_reader_record(random, count).to_vec();
+            let record = generate::bit_reader_record(random, edition, count).to_vec();
             let mut other = Lent { record, buffer: vec![], answer: vec![] };
             read_bits(pair, random, &numbers, &mut other, &frame)?;
         }
+    }
+    Ok(())
+}
+
+fn write_bits(
+    pair: &mut Pair,
+    numbers: &[u64],
+    lent: &mut Lent,
+    bits: &[u8],
+    number: u64,
+) -> Result<(), Difference> {
+    let count = lent.record[0];
+    let refusal = pair.both("bits_write", numbers, bits, lent, |calls, lent| {
+        calls.bits_write(numbers, &mut lent.record, bits, number, &mut lent.buffer)
+    })?;
+    if refusal == 0 {
+        pair.note_written(edition_of(numbers), count, lent.record[0]);
     }
     Ok(())
 }
@@ -737,14 +831,21 @@ fn read_bits(
     })?;
     if refusal == 0 {
         let (count, number) = (lent.answer[0], lent.answer[3]);
+        let edition = edition_of(numbers);
         pair.note("loss flag", lent.answer[2]);
         pair.note("loss waits", lent.record[2]);
+        if before[0] != 0 {
+            pair.note_read(edition, before[1], count);
+        }
         // 1 is a loss of this count, 2 one that waited, 3 both.
-        let follows = before[0] == 0 || count == (before[1] + 1) % u64::from(WHEEL);
+        let follows = before[0] == 0 || count == (before[1] + 1) % u64::from(edition.wheel());
         let loss = u64::from(!follows) + 2 * before[2];
         pair.note(if number == 0 { "loss in fill" } else { "loss with bits" }, loss);
     } else if before[2] == 1 {
         pair.note("loss waits at refusal", refusal);
+    }
+    if refusal == 6 {
+        pair.note_wrong_signalling(edition_of(numbers), frame);
     }
     Ok(())
 }
@@ -892,7 +993,8 @@ fn short_arrays(pair: &mut Pair, random: &mut Random) -> Result<(), Difference> 
         numbers
     };
     let channel = generate::settings_numbers(&settings);
-    let bit_settings = [channel[0], channel[1], channel[2], channel[4], channel[5]];
+    let [spacecraft, name, zone, _, fill, trailer, edition] = channel;
+    let bit_settings = [spacecraft, name, zone, fill, trailer, edition];
     for short in 0..4 {
         let all = |random: &mut Random, settings: &[u64], record: &[u64], answer: usize| {
             let settings = cut(random, settings, short == 1);
@@ -1019,14 +1121,21 @@ fn short_arrays(pair: &mut Pair, random: &mut Random) -> Result<(), Difference> 
     Ok(())
 }
 
+/// A manner of a channel and of its refusal 6.
+fn some_manner(random: &mut Random) -> Manner {
+    let (trailer, edition) = (random.once_in(2), random.pick(&Edition::ALL));
+    let wrong_bits = random.pick(orders::wrong_bits(edition));
+    Manner { trailer, edition, wrong_bits }
+}
+
 /// Every call with several of its refusals called for at once, at times with a damaged header.
 fn several_refusals(pair: &mut Pair, random: &mut Random) -> Result<(), Difference> {
     for order in &ORDERS {
         for _ in 0..6 {
-            let trailer = random.once_in(2);
+            let manner = some_manner(random);
             let refusals: Vec<u64> =
-                order.refusals(trailer).filter(|_| random.once_in(3)).collect();
-            let mut arguments = orders::arguments(order.call, &refusals, trailer);
+                order.refusals(manner.trailer).filter(|_| random.once_in(3)).collect();
+            let mut arguments = orders::arguments(order.call, &refusals, manner);
             if orders::NAMING.contains(&order.call) {
                 orders::damage(random.within(0, 4) as u64, &mut arguments);
             }

@@ -1,9 +1,11 @@
 //! The comparison itself: it finds no difference where there is none, meets every
 //! refusal, and sees through impostors.
 
+mod impostor;
+
 use itzahuemo_reference::calls::{Calls, Reference};
 use itzahuemo_reference::each_call;
-use itzahuemo_reference::orders::ORDERS;
+use itzahuemo_reference::orders::{Arguments, ORDERS};
 use itzahuemo_reference::sessions::{session, Tally};
 
 const SESSIONS: u64 = 3_000;
@@ -53,6 +55,11 @@ fn the_reference_agrees_with_itself_and_everything_is_met() {
         ("loss waits at refusal", 1..=1),
         ("loss waits at refusal", 3..=7),
         ("loss waits at refusal", 13..=13),
+        ("wheel turns in edition", 0..=2),
+        ("wheel turns written in edition", 0..=2),
+        ("cycle begins", 1..=2),
+        ("cycle begins written", 1..=2),
+        ("only cycles lost", 1..=2),
         ("routed", 1..=2),
         ("destinations", 0..=2),
     ] {
@@ -62,6 +69,15 @@ fn the_reference_agrees_with_itself_and_everything_is_met() {
     }
     for number in 0..=2 {
         assert!(!tally.said.contains_key(&("damage at entering", number)), "entering {number}");
+    }
+    for (what, bits) in [
+        ("wrong bit of edition 0", 0..=6),
+        ("wrong bit of edition 1", 0..=6),
+        ("wrong bit of edition 2", 4..=6),
+    ] {
+        for bit in bits {
+            assert!(tally.said.contains_key(&(what, 1 << bit)), "{what} {bit}");
+        }
     }
     // No call gives a refusal that is not in its order; 2 may be for an array.
     for (call, refusal) in tally.refusals.keys() {
@@ -153,6 +169,7 @@ fn seen(change: impl Fn(&[u64], &[u8], Outcome)) -> &'static str {
 #[test]
 fn an_impostor_that_changes_nothing_is_not_seen() {
     assert_eq!(seen(|_, _, _| {}), "never");
+    impostor::never_seen("bits_read");
 }
 
 #[test]
@@ -286,25 +303,48 @@ fn a_space_header_that_is_not_written() {
     assert_eq!(call, "write_space");
 }
 
+/// The losses that a frame of bits may tell of, 1 where there is one: of what came before it, which
+/// waits, and of its own count, which does not follow.
+struct Losses {
+    waiting: u64,
+    own: u64,
+}
+
+impl Losses {
+    /// Those of a frame of this count, before which the record was this one.
+    fn of(wheel: u64, record: &[u64], count: u64) -> Losses {
+        let follows = record[0] == 0 || count == (record[1] + 1) % wheel;
+        Losses { waiting: record[2], own: u64::from(!follows) }
+    }
+}
+
+/// The number of counts on the channel of a reader of bits.
+fn wheel_of(all: &Arguments) -> u64 {
+    if all.numbers[5] == 2 {
+        1 << 28
+    } else {
+        1 << 24
+    }
+}
+
 /// The comparison sees through a reader of bits that changes what it makes of a frame it reads. The
-/// change is given the record as it was lent, the record and the answer.
-fn is_seen_reading(change: impl Fn(&[u64], &mut [u64], &mut [u64])) {
-    let call = seen(|lent, _, outcome| {
-        if outcome.call == "bits_read" && *outcome.refusal == 0 {
-            change(lent, outcome.record, outcome.answer);
+/// change is given the losses, the record and the answer.
+fn is_seen_reading(change: impl Fn(Losses, &mut [u64], &mut [u64])) {
+    let changed = |call: &str, all: &mut Arguments| {
+        let lent = all.record.clone();
+        let refusal = impostor::by_reference(call, all);
+        if refusal == 0 {
+            let losses = Losses::of(wheel_of(all), &lent, all.answer[0]);
+            change(losses, &mut all.record, &mut all.answer);
         }
-    });
-    assert_eq!(call, "bits_read");
+        refusal
+    };
+    assert_eq!(impostor::first_seen("bits_read", &changed), "bits_read");
 }
 
 /// Whether the frame that was read has no bits.
 fn is_fill(answer: &[u64]) -> bool {
     answer[3] == 0
-}
-
-/// 1 if the count of the frame that was read does not follow the record's, else 0.
-fn own_loss(lent: &[u64], answer: &[u64]) -> u64 {
-    u64::from(lent[0] == 1 && answer[0] != (lent[1] + 1) % (1 << 24))
 }
 
 #[test]
@@ -314,17 +354,17 @@ fn a_reader_of_bits_that_never_sees_a_loss() {
 
 #[test]
 fn a_reader_of_bits_that_tells_each_loss_at_once() {
-    is_seen_reading(|lent, record, answer| {
-        answer[2] = own_loss(lent, answer);
+    is_seen_reading(|losses, record, answer| {
+        answer[2] = losses.own;
         record[2] = 0;
     });
 }
 
 #[test]
 fn a_reader_of_bits_that_tells_a_loss_with_fill() {
-    is_seen_reading(|lent, _, answer| {
+    is_seen_reading(|losses, _, answer| {
         if is_fill(answer) {
-            answer[2] = own_loss(lent, answer);
+            answer[2] = losses.own;
         }
     });
     is_seen_reading(|_, record, answer| {
@@ -336,18 +376,18 @@ fn a_reader_of_bits_that_tells_a_loss_with_fill() {
 
 #[test]
 fn a_reader_of_bits_that_forgets_a_loss_in_fill() {
-    is_seen_reading(|lent, record, answer| {
+    is_seen_reading(|losses, record, answer| {
         if is_fill(answer) {
-            record[2] = own_loss(lent, answer);
+            record[2] = losses.own;
         }
     });
 }
 
 #[test]
 fn a_reader_of_bits_for_whom_fill_cannot_be_lost() {
-    is_seen_reading(|lent, record, answer| {
+    is_seen_reading(|losses, record, answer| {
         if is_fill(answer) {
-            record[2] = lent[2];
+            record[2] = losses.waiting;
         }
     });
 }
@@ -364,32 +404,32 @@ fn a_reader_of_bits_that_tells_a_loss_again() {
             record[2] = answer[2];
         }
     });
-    is_seen_reading(|lent, record, answer| {
+    is_seen_reading(|losses, record, answer| {
         if !is_fill(answer) {
-            record[2] = lent[2];
+            record[2] = losses.waiting;
         }
     });
-    is_seen_reading(|lent, record, answer| {
+    is_seen_reading(|losses, record, answer| {
         if !is_fill(answer) {
-            record[2] = own_loss(lent, answer);
+            record[2] = losses.own;
         }
     });
 }
 
 #[test]
 fn a_reader_of_bits_that_leaves_out_its_own_count() {
-    is_seen_reading(|lent, _, answer| {
+    is_seen_reading(|losses, _, answer| {
         if !is_fill(answer) {
-            answer[2] = lent[2];
+            answer[2] = losses.waiting;
         }
     });
 }
 
 #[test]
 fn a_reader_of_bits_that_leaves_out_the_counts_before() {
-    is_seen_reading(|lent, _, answer| {
+    is_seen_reading(|losses, _, answer| {
         if !is_fill(answer) {
-            answer[2] = own_loss(lent, answer);
+            answer[2] = losses.own;
         }
     });
 }
@@ -397,14 +437,14 @@ fn a_reader_of_bits_that_leaves_out_the_counts_before() {
 /// Two losses are no loss.
 #[test]
 fn a_reader_of_bits_whose_losses_cancel() {
-    is_seen_reading(|lent, record, answer| {
-        let loss = lent[2] ^ own_loss(lent, answer);
+    is_seen_reading(|losses, record, answer| {
+        let loss = losses.waiting ^ losses.own;
         if is_fill(answer) {
             record[2] = loss;
         }
     });
-    is_seen_reading(|lent, _, answer| {
-        let loss = lent[2] ^ own_loss(lent, answer);
+    is_seen_reading(|losses, _, answer| {
+        let loss = losses.waiting ^ losses.own;
         if !is_fill(answer) {
             answer[2] = loss;
         }
@@ -427,29 +467,30 @@ fn a_reader_of_bits_that_a_refused_frame_changes() {
     }
 }
 
-/// The comparison sees through a reader of bits that takes a record which is none.
-fn is_seen_taking(what: &str, is_taken: impl Fn(&[u64]) -> bool) {
-    let call = seen(|lent, _, outcome| {
-        if outcome.call == "bits_read" && *outcome.refusal == 10 && is_taken(lent) {
-            *outcome.refusal = 0;
-        }
-    });
-    assert_eq!(call, "bits_read", "{what}");
+/// The comparison sees through a reader of bits that takes a record which is none. What it takes is
+/// told by the wheel and the record.
+fn is_seen_taking(what: &str, is_taken: impl Fn(u64, &[u64]) -> bool) {
+    let taken = |call: &str, all: &mut Arguments| match impostor::by_reference(call, all) {
+        10 if is_taken(wheel_of(all), &all.record) => 0,
+        refusal => refusal,
+    };
+    assert_eq!(impostor::first_seen("bits_read", &taken), "bits_read", "{what}");
 }
 
 #[test]
 fn a_reader_of_bits_that_goes_by_any_record() {
-    let wheel = 1 << 24;
     for waiting in [2, 3, 256, 257, 1 << 32, (1 << 32) + 1, u64::MAX] {
-        is_seen_taking("a flag that is none", |lent| {
+        is_seen_taking("a flag that is none", |wheel, lent| {
             lent[0] == 1 && lent[1] < wheel && lent[2] == waiting
         });
     }
-    is_seen_taking("a loss before any frame", |lent| lent[..3] == [0, 0, 1]);
-    is_seen_taking("a count before any frame", |lent| lent[0] == 0 && lent[1] > 0 && lent[2] == 0);
+    is_seen_taking("a loss before any frame", |_, lent| lent[..3] == [0, 0, 1]);
+    is_seen_taking("a count before any frame", |_, lent| {
+        lent[0] == 0 && lent[1] > 0 && lent[2] == 0
+    });
     for waiting in [0, 1] {
-        is_seen_taking("a count off the wheel", |lent| lent[..3] == [1, wheel, waiting]);
-        is_seen_taking("a third kind", |lent| {
+        is_seen_taking("a count off the wheel", |wheel, lent| lent[..3] == [1, wheel, waiting]);
+        is_seen_taking("a third kind", |wheel, lent| {
             lent[0] == 2 && lent[1] < wheel && lent[2] == waiting
         });
     }

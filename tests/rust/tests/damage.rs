@@ -292,7 +292,7 @@ const LENT_FRAME: [u8; 15] = [0x77; 15];
 fn put(limit: u64, packet: &[u8]) -> (u64, u64) {
     let start = [0, 0, 2_047, 0];
     let (mut record, mut frame, mut answer) = (start, LENT_FRAME, [9; PUT]);
-    let settings = [66, 3, 7, limit, 0x55, 0];
+    let settings = [66, 3, 7, limit, 0x55, 0, 0];
     let refusal = Reference.mux_put(&settings, &mut record, packet, &mut frame, &mut answer);
     if refusal != 0 {
         assert_eq!((record, frame), (start, LENT_FRAME));
@@ -578,7 +578,7 @@ fn other_refusals_name_no_damage() {
             assert_eq!(Reference.read_header(limit, damaged, &mut answer), 1);
             assert_eq!(answer, [0; HEADER]);
         }
-        let settings = [66, 3, 7, 64, 0x55, 0];
+        let settings = [66, 3, 7, 64, 0x55, 0, 0];
         let put = |settings: &[u64], record: [u64; 4], size: usize| {
             let (mut record, mut answer) = (record, [9; PUT]);
             let refusal = Reference.mux_put(
@@ -591,7 +591,7 @@ fn other_refusals_name_no_damage() {
             (refusal, answer)
         };
         let start = [0, 0, 2_047, 0];
-        assert_eq!(put(&[66, 63, 7, 64, 0x55, 0], start, 15), (1, [0; PUT]));
+        assert_eq!(put(&[66, 63, 7, 64, 0x55, 0, 0], start, 15), (1, [0; PUT]));
         assert_eq!(put(&settings, start, 14), (2, [0; PUT]));
         assert_eq!(put(&settings, [0, 7, 2_047, 0], 15), (10, [0; PUT]));
         // Nine octets of a packet are taken, and these are fewer.
@@ -647,7 +647,7 @@ fn entering() {
         {
             let rest = &header[held..];
             let zone = zone_of(size.max(rest.len()), rest);
-            let settings = [66, 3, size as u64, 64, 0x55, 0];
+            let settings = [66, 3, size as u64, 64, 0x55, 0, 0];
             let mut store = vec![0xA0; 64];
             store[..held].copy_from_slice(&header[..held]);
             let enter = |count: u64, pointer: u16| {
@@ -698,7 +698,7 @@ fn entering() {
 /// Held octets begin well, so entering meets no wrong first octet: such a record is refused (10).
 #[test]
 fn first_octets_are_not_held() {
-    let settings = [66, 3, 7, 64, 0x55, 0];
+    let settings = [66, 3, 7, 64, 0x55, 0, 0];
     let frame = frame(6, 2_047, &[0xFF; 7]);
     for first in 0x00..=0xFF {
         let mut store = vec![0xFF; 64];
@@ -720,7 +720,7 @@ fn steps() {
     let mut headers = damaged_lengths();
     headers.extend([0x20, 0x33, 0x5F, 0x80, 0xDF].map(|first| (vec![first], 1)));
     headers.extend([0xE4, 0xEC, 0xF8, 0xFC].map(|first| (vec![first], 2)));
-    let settings = [66, 3, 12, 64, 0x55, 0];
+    let settings = [66, 3, 12, 64, 0x55, 0, 0];
     let mut met = [0; 5];
     for (header, damage) in headers {
         for at in 0..=12 - header.len() {
@@ -761,7 +761,7 @@ fn steps() {
 /// A step on another frame, whose octets damage the held header.
 #[test]
 fn a_step_on_another_frame() {
-    let settings = [66, 3, 9, 64, 0x55, 0];
+    let settings = [66, 3, 9, 64, 0x55, 0, 0];
     for (header, damage) in damaged_lengths() {
         for held in 1..header.len() {
             let mut store = vec![0xA0; 64];
@@ -782,23 +782,23 @@ fn a_step_on_another_frame() {
 #[test]
 fn arrays() {
     type Made = fn(&mut [u64]) -> u64;
-    let settings = [66, 3, 7, 64, 0x55, 0];
+    let settings = [66, 3, 7, 64, 0x55, 0, 0];
     let calls: [(&str, usize, Made); 7] = [
         ("read_header", HEADER, |answer| Reference.read_header(64, &[0x33], answer)),
         ("wrap", WRAPPED, |answer| Reference.wrap(64, 2, 0, &[], &mut [], answer)),
         ("unwrap", UNWRAPPED, |answer| Reference.unwrap(64, &[0x33], answer)),
         ("mux_put", PUT, |answer| {
-            let settings = [66, 3, 7, 64, 0x55, 0];
+            let settings = [66, 3, 7, 64, 0x55, 0, 0];
             let mut record = [0, 0, 2_047, 0];
             Reference.mux_put(&settings, &mut record, &[0x33], &mut [0; 15], answer)
         }),
         ("extractor_enter", ENTERED, |answer| {
-            let settings = [66, 3, 1, 7, 0x55, 0];
+            let settings = [66, 3, 1, 7, 0x55, 0, 0];
             let frame = frame(6, 0, &[0x08]);
             Reference.extractor_enter(&settings, &mut [2, 5, 1, 0], &[0xE9; 7], &frame, answer)
         }),
         ("extractor_step", STEP, |answer| {
-            let settings = [66, 3, 1, 7, 0x55, 0];
+            let settings = [66, 3, 1, 7, 0x55, 0, 0];
             let frame = frame(6, 0, &[0x33]);
             Reference.extractor_step(&settings, &mut [3, 6, 0, 0], &mut [0; 7], &frame, answer)
         }),

@@ -4,9 +4,9 @@ use itzahuemo_reference::calls::{Calls, Reference};
 use itzahuemo_reference::generate::seal;
 
 /// Spacecraft 5 and channel 3, as in source 000's tests, with a zone of one octet and no trailer.
-const CHANNEL: [u64; 5] = [5, 3, 1, 0x55, 0];
+const CHANNEL: [u64; 6] = [5, 3, 1, 0x55, 0, 0];
 
-const WITH_TRAILERS: [u64; 5] = [5, 3, 1, 0x55, 1];
+const WITH_TRAILERS: [u64; 6] = [5, 3, 1, 0x55, 1, 0];
 
 const FILL: u64 = 0;
 const LAST: u64 = 16_777_215;
@@ -136,7 +136,7 @@ fn a_few_bits_are_bits() {
 }
 
 /// A frame with bits and this count that is refused by this number.
-fn refused(number: u64, settings: &[u64; 5], count: u64) -> Vec<u8> {
+fn refused(number: u64, settings: &[u64; 6], count: u64) -> Vec<u8> {
     let mut frame = unit(count, 8, 0x71);
     match number {
         4 => frame[0] ^= 0x80,

@@ -1,6 +1,7 @@
 //! The fourteen sample passes of document 01.
 
 use itzahuemo_reference::reference::bitstream::{self, Reader, Writer};
+use itzahuemo_reference::reference::edition::Edition;
 use itzahuemo_reference::reference::extractor::{self, Entered, Reason, Record, Step};
 use itzahuemo_reference::reference::frame::{self, Settings, HEAD, IDLE_ZONE, NO_START};
 use itzahuemo_reference::reference::multiplexer;
@@ -21,8 +22,15 @@ const SECOND: [u8; 18] = [
     0x55, 0x55,
 ];
 
-const CHANNEL: Settings =
-    Settings { spacecraft: 66, channel: 3, zone: 10, limit: 1_024, fill: 0x55, trailer: false };
+const CHANNEL: Settings = Settings {
+    spacecraft: 66,
+    channel: 3,
+    zone: 10,
+    limit: 1_024,
+    fill: 0x55,
+    trailer: false,
+    edition: Edition::Former,
+};
 
 /// The sample's second frame with another count and pointer.
 fn second(count: u8, pointer: u16) -> [u8; 18] {
@@ -169,8 +177,8 @@ fn pass_06_pointer_2047() {
 
 #[test]
 fn pass_07_the_wheel() {
-    assert_eq!(frame::missing(16_777_215, 0), 0);
-    assert_eq!(frame::missing(9, 9), 16_777_215);
+    assert_eq!(CHANNEL.edition.missing(16_777_215, 0), 0);
+    assert_eq!(CHANNEL.edition.missing(9, 9), 16_777_215);
 
     let mut last = second(0, IDLE_ZONE);
     last[2..5].fill(0xFF);
@@ -253,8 +261,8 @@ fn pass_12_the_longest_space_packet() {
 
 #[test]
 fn pass_13_bits_in_one_octet() {
-    let settings =
-        bitstream::Settings { spacecraft: 66, channel: 3, width: 1, fill: 0x55, trailer: false };
+    let Settings { spacecraft, channel, fill, trailer, edition, .. } = CHANNEL;
+    let settings = bitstream::Settings { spacecraft, channel, width: 1, fill, trailer, edition };
     let mut writer = Writer::START;
     let mut reader = Reader::START;
     for (number, pointer, octet) in [(7, 6, 0xFF), (8, 16_383, 0xFE), (0, 16_382, 0x55)] {

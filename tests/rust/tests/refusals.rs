@@ -1,43 +1,75 @@
 //! Which refusal a call gives, and what it leaves behind.
 
 use itzahuemo_reference::calls::{Calls, Reference};
-use itzahuemo_reference::orders::{arguments, damage, make, Order, NAMING, ORDERS};
+use itzahuemo_reference::orders::{arguments, damage, make, wrong_bits};
+use itzahuemo_reference::orders::{Manner, Order, NAMING, ORDERS};
 use itzahuemo_reference::reference::bitstream::{self, Reader, Writer};
+use itzahuemo_reference::reference::edition::Edition;
 use itzahuemo_reference::reference::frame::Settings;
 use itzahuemo_reference::reference::packet::{read_header, Damage};
 use itzahuemo_reference::reference::wrap::{unwrap, wrap};
 use itzahuemo_reference::reference::{extractor, judge, multiplexer, Refusal};
 
-const CHANNEL: Settings =
-    Settings { spacecraft: 66, channel: 3, zone: 10, limit: 64, fill: 0x55, trailer: false };
+const CHANNEL: Settings = Settings {
+    spacecraft: 66,
+    channel: 3,
+    zone: 10,
+    limit: 64,
+    fill: 0x55,
+    trailer: false,
+    edition: Edition::Former,
+};
+
+const BIT_CHANNEL: bitstream::Settings = bitstream::Settings {
+    spacecraft: 66,
+    channel: 3,
+    width: 10,
+    fill: 0,
+    trailer: false,
+    edition: Edition::Former,
+};
 
 /// For every set of refusals that could be given, the first in order is; and a
 /// refused call changes nothing but its answer, which it sets to zeros, but for the
 /// damage that refusal 8 names.
 #[test]
 fn the_first_in_order() {
-    for (order, trailer) in ORDERS.iter().flat_map(|order| [(order, false), (order, true)]) {
-        let possible: Vec<u64> = order.refusals(trailer).collect();
+    for (order, manner) in
+        ORDERS.iter().flat_map(|order| manners().into_iter().map(move |manner| (order, manner)))
+    {
+        let possible: Vec<u64> = order.refusals(manner.trailer).collect();
         let damages = if NAMING.contains(&order.call) { 0..=4 } else { 0..=0 };
         for set in 0..1_u32 << possible.len() {
             let chosen = |place: &usize| set >> place & 1 == 1;
             let refusals: Vec<u64> =
                 (0..possible.len()).filter(chosen).map(|place| possible[place]).collect();
             for damage in damages.clone() {
-                the_first_of(order, &refusals, trailer, damage);
+                the_first_of(order, &refusals, manner, damage);
             }
         }
     }
 }
 
-fn the_first_of(order: &Order, refusals: &[u64], trailer: bool, number: u64) {
-    let mut lent = arguments(order.call, refusals, trailer);
+/// Every manner of a channel and of its refusal 6.
+fn manners() -> Vec<Manner> {
+    let mut manners = vec![];
+    for (trailer, edition) in
+        [false, true].into_iter().flat_map(|trailer| Edition::ALL.map(|edition| (trailer, edition)))
+    {
+        let bits = wrong_bits(edition).iter();
+        manners.extend(bits.map(|&wrong_bits| Manner { trailer, edition, wrong_bits }));
+    }
+    manners
+}
+
+fn the_first_of(order: &Order, refusals: &[u64], manner: Manner, number: u64) {
+    let mut lent = arguments(order.call, refusals, manner);
     damage(number, &mut lent);
     let mut after = lent.clone();
     let refusal = make(&Reference, order.call, &mut after);
     let called_for = |refusal: &u64| refusals.contains(refusal) || *refusal == 8 && number != 0;
-    let first = order.refusals(trailer).find(called_for).unwrap_or(0);
-    let with = format!("{} with {refusals:?}, damage {number}, trailer {trailer}", order.call);
+    let first = order.refusals(manner.trailer).find(called_for).unwrap_or(0);
+    let with = format!("{} with {refusals:?}, damage {number}, {manner:?}", order.call);
     assert_eq!(refusal, first, "{with}");
     if refusal != 0 {
         let mut said = vec![0; lent.answer.len()];
@@ -327,8 +359,7 @@ fn a_step_on_another_frame() {
 #[test]
 fn bits() {
     let fill = 0b1010_1010;
-    let settings =
-        bitstream::Settings { spacecraft: 66, channel: 3, width: 2, fill, trailer: false };
+    let settings = bitstream::Settings { width: 2, fill, ..BIT_CHANNEL };
     let mut frame = [0x77; 11];
     let mut writer = Writer { count: (1 << 24) - 1 };
     bitstream::write(&settings, &mut writer, &[0b0110_0000], 3, &mut frame).unwrap();
@@ -369,8 +400,7 @@ fn bits() {
 #[test]
 fn bit_settings_at_the_edges() {
     let write = |channel, width| {
-        let settings =
-            bitstream::Settings { spacecraft: 66, channel, width, fill: 0, trailer: false };
+        let settings = bitstream::Settings { channel, width, ..BIT_CHANNEL };
         bitstream::write(&settings, &mut Writer::START.clone(), &[], 0, &mut [0; 3_000])
     };
     for (channel, width) in [(0, 1), (62, 2_047)] {
@@ -385,8 +415,8 @@ fn bit_settings_at_the_edges() {
 /// entry that its kind has no use for.
 #[test]
 fn numbers_that_are_no_record() {
-    let settings = [66, 3, 10, 64, 0, 0];
-    let bit_settings = [66, 3, 10, 0, 0];
+    let settings = [66, 3, 10, 64, 0, 0, 0];
+    let bit_settings = [66, 3, 10, 0, 0, 0];
     let frame = [&[0x50, 0x83, 0, 0, 5, 0, 0x07, 0xFE][..], &[0; 10]].concat();
     let great = 1 << 32;
     for record in [
@@ -469,12 +499,10 @@ fn numbers_that_are_no_record() {
 /// What a read makes of a record of a reader of bits: refusal 10 or not.
 #[test]
 fn bit_reader_records() {
-    let settings =
-        bitstream::Settings { spacecraft: 66, channel: 3, width: 10, fill: 0, trailer: false };
     let frame = [&[0x50, 0x83, 0, 0, 5, 0, 0, 0][..], &[0; 10]].concat();
     let read = |last, waiting| {
         let mut reader = Reader { last, waiting };
-        bitstream::read(&settings, &mut reader, &frame).map(|bits| bits.loss)
+        bitstream::read(&BIT_CHANNEL, &mut reader, &frame).map(|bits| bits.loss)
     };
     let last = (1 << 24) - 1;
     assert_eq!(read(None, false), Ok(false));
@@ -504,8 +532,13 @@ fn numbers_out_of_range() {
         (5, 256),
         (5, (1 << 32) + 1),
         (5, u64::MAX),
+        (6, 3),
+        (6, 4),
+        (6, 256),
+        (6, (1 << 32) + 1),
+        (6, u64::MAX),
     ] {
-        let mut settings = [66, 3, 10, 64, 0, 0];
+        let mut settings = [66, 3, 10, 64, 0, 0, 0];
         settings[place] = number;
         let mut record = [0, 0, 2_047, 0];
         assert_eq!(Reference.mux_idle(&settings, &mut record, &mut [0; 18]), 1);
@@ -514,7 +547,7 @@ fn numbers_out_of_range() {
     for (protocol, extension) in [(256 + 2, 0), (2, 256), (u64::MAX, 0)] {
         assert_eq!(Reference.wrap(64, protocol, extension, &[1], &mut [0; 9], &mut answer), 1);
     }
-    let settings = [66, 3, 10, 0, 0];
+    let settings = [66, 3, 10, 0, 0, 0];
     assert_eq!(Reference.bits_write(&settings, &mut [0], &[], u64::MAX, &mut [0; 18]), 1);
 }
 
@@ -525,19 +558,19 @@ fn short_arrays() {
     assert_eq!(Reference.read_header(6, &[], &mut answer), 2);
     assert_eq!(answer, [7; 2]);
     let mut record = [0, 0, 0, 0];
-    let settings = [66, 63, 10, 64, 0, 0];
-    assert_eq!(Reference.judge_close(&settings[..5], &record, &[], &mut answer), 2);
+    let settings = [66, 63, 10, 64, 0, 0, 0];
+    assert_eq!(Reference.judge_close(&settings[..6], &record, &[], &mut answer), 2);
     assert_eq!(Reference.judge_close(&settings, &record[..3], &[], &mut answer), 2);
     assert_eq!(Reference.judge_close(&settings, &record, &[], &mut answer[..1]), 2);
     assert_eq!(answer, [7; 2]);
     assert_eq!(Reference.judge_close(&settings, &record, &[], &mut answer), 1);
     assert_eq!(answer, [0; 2]);
-    assert_eq!(Reference.judge_frame(&[66, 3, 10, 64, 0, 0], &mut record, &mut [0; 64], &[]), 0);
+    assert_eq!(Reference.judge_frame(&[66, 3, 10, 64, 0, 0, 0], &mut record, &mut [0; 64], &[]), 0);
     assert_eq!(record, [2, 1, 0, 0]);
 
     // A reader of bits has three numbers.
     let (mut record, mut answer) = ([9; 3], [7; 6]);
-    let settings = [66, 63, 10, 0, 0];
+    let settings = [66, 63, 10, 0, 0, 0];
     for size in 0..3 {
         let refusal = Reference.bits_read(&settings, &mut record[..size], &[], &mut answer);
         assert_eq!((refusal, record, answer), (2, [9; 3], [7; 6]));

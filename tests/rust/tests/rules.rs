@@ -1,14 +1,16 @@
 //! Whole frames and whole runs, read a second way.
 //!
-//! Here document 01's rules, with document 02's trailers, its loss flag and its
-//! names of damage, are taken over lists of octets, a frame at a time and a run at a
-//! time, with no record, store or walk; and the reference is held against them.
+//! Here document 01's rules, with document 02's trailers, its loss flag, its names of
+//! damage and its longer count, are taken over lists of octets, a frame at a time and
+//! a run at a time, with no record, store or walk; and the reference is held against
+//! them.
 
 use std::collections::BTreeMap;
 
 use itzahuemo_reference::generate;
 use itzahuemo_reference::random::Random;
 use itzahuemo_reference::reference::bitstream::{self, Reader, Writer};
+use itzahuemo_reference::reference::edition::Edition;
 use itzahuemo_reference::reference::extractor::{self, Step};
 use itzahuemo_reference::reference::frame::Settings;
 use itzahuemo_reference::reference::judge::{self, Verdict};
@@ -74,11 +76,21 @@ fn syndrome(frame: &[u8]) -> Vec<bool> {
     dividend.split_off(dividend.len() - 16)
 }
 
+/// The number of counts of an edition.
+fn wheel(edition: Edition) -> usize {
+    match edition {
+        Edition::Former | Edition::CycleUnused => 16_777_216,
+        Edition::CycleUsed => 268_435_456,
+    }
+}
+
 /// The refusals 3, 13 and 4 to 6, or the count, the replay flag and the pointer, on a channel of
-/// either kind: its name, its zone and trailer, and the number that its pointers are below.
+/// either kind: its name, its zone and trailer, its edition, and the number that its pointers are
+/// below.
 fn either_header(
     (spacecraft, channel): (u8, u8),
     (zone, trailer): (usize, bool),
+    edition: Edition,
     pointers: usize,
     frame: &[u8],
 ) -> Result<(usize, bool, usize), u64> {
@@ -95,18 +107,24 @@ fn either_header(
     if name != usize::from(spacecraft) * 64 + usize::from(channel) {
         return Err(5);
     }
-    let spare = frame[5] % 128;
+    // What may stand behind the replay flag, from cycle 0 on.
+    let allowed = match edition {
+        Edition::Former | Edition::CycleUnused => 0..1,
+        Edition::CycleUsed => 64..80,
+    };
+    let signalling = frame[5] % 128;
     let pointer = number(&frame[6..8]);
-    if spare > 0 || pointer >= pointers {
+    if !allowed.contains(&signalling) || pointer >= pointers {
         return Err(6);
     }
-    Ok((number(&frame[2..5]), frame[5] >= 128, pointer))
+    let cycle = usize::from(signalling - allowed.start);
+    Ok((cycle * 16_777_216 + number(&frame[2..5]), frame[5] >= 128, pointer))
 }
 
 /// The refusals 3, 13 and 4 to 7, or the count, the replay flag and the pointer.
 fn header(settings: &Settings, frame: &[u8]) -> Result<(usize, bool, usize), u64> {
-    let Settings { spacecraft, channel, zone, trailer, .. } = *settings;
-    let head = either_header((spacecraft, channel), (zone, trailer), 2_048, frame)?;
+    let Settings { spacecraft, channel, zone, trailer, edition, .. } = *settings;
+    let head = either_header((spacecraft, channel), (zone, trailer), edition, 2_048, frame)?;
     if head.2 >= zone && head.2 <= 2_045 {
         return Err(7);
     }
@@ -115,9 +133,9 @@ fn header(settings: &Settings, frame: &[u8]) -> Result<(usize, bool, usize), u64
 
 /// The refusals 3, 13 and 4 to 7, or the count, the replay flag and the number of bits.
 fn bit_header(settings: &bitstream::Settings, frame: &[u8]) -> Result<(usize, bool, usize), u64> {
-    let bitstream::Settings { spacecraft, channel, width, trailer, .. } = *settings;
+    let bitstream::Settings { spacecraft, channel, width, trailer, edition, .. } = *settings;
     let (count, replay, pointer) =
-        either_header((spacecraft, channel), (width, trailer), 16_384, frame)?;
+        either_header((spacecraft, channel), (width, trailer), edition, 16_384, frame)?;
     match pointer {
         16_382 => Ok((count, replay, 0)),
         16_383 => Ok((count, replay, 8 * width)),
@@ -148,7 +166,7 @@ struct State {
 fn said_of(settings: &Settings, state: &mut State, frame: &[u8]) -> Said {
     let (count, replay, pointer) = header(settings, frame)?;
     let zone = &frame[8..8 + settings.zone];
-    let wheel = 16_777_216;
+    let wheel = wheel(settings.edition);
     let lost = state.last.map_or(0, |last| (count + 2 * wheel - last - 1) % wheel);
     state.last = Some(count);
 
@@ -237,7 +255,8 @@ fn heard(
 fn carried(settings: &Settings, frames: &[Vec<u8>]) -> Option<Vec<Vec<u8>>> {
     let heads: Vec<_> =
         frames.iter().map(|frame| header(settings, frame).ok()).collect::<Option<_>>()?;
-    let rising = heads.windows(2).all(|two| two[1].0 == (two[0].0 + 1) % 16_777_216);
+    let wheel = wheel(settings.edition);
+    let rising = heads.windows(2).all(|two| two[1].0 == (two[0].0 + 1) % wheel);
     if !rising {
         return None;
     }
@@ -420,12 +439,13 @@ fn multiplexed_packets_are_carried() {
 /// A frame of bits that was read: its count and the number of its bits.
 type Unit = (usize, usize);
 
-/// The flag of the last of all the units read: it has bits, and looking back to the last unit with
-/// bits before it, or to the first unit, some count did not follow.
-fn loss_flag(units: &[Unit]) -> bool {
+/// The flag of the last of all the units read, with counts round this wheel: it has bits, and
+/// looking back to the last unit with bits before it, or to the first unit, some count did not
+/// follow.
+fn loss_flag(wheel: usize, units: &[Unit]) -> bool {
     let (last, before) = units.split_last().unwrap();
     let since = before.iter().rposition(|unit| unit.1 > 0).unwrap_or(0);
-    last.1 > 0 && units[since..].windows(2).any(|two| two[1].0 != (two[0].0 + 1) % 16_777_216)
+    last.1 > 0 && units[since..].windows(2).any(|two| two[1].0 != (two[0].0 + 1) % wheel)
 }
 
 /// Reads one more frame and holds the reader against the list of all units read before, to which it
@@ -437,18 +457,20 @@ fn read_on(
     frame: &[u8],
 ) -> Result<bool, u64> {
     let before = *reader;
+    let wheel = wheel(settings.edition);
     let said = bitstream::read(settings, reader, frame).map_err(|refusal| refusal.number());
     let expected = bit_header(settings, frame).map(|(count, replay, number)| {
         units.push((count, number));
         let octets = &frame[8..8 + (number + 7) / 8];
-        bitstream::Bits { count: count as u32, replay, loss: loss_flag(units), number, octets }
+        let loss = loss_flag(wheel, units);
+        bitstream::Bits { count: count as u32, replay, loss, number, octets }
     });
     assert_eq!(said, expected, "{settings:?} {units:?} {frame:x?}");
     match units.last() {
         // What waits is told by bits in the next frame.
         Some(&(last, _)) => {
-            let next = ((last + 1) % 16_777_216, 1);
-            let waiting = loss_flag(&[&units[..], &[next]].concat());
+            let next = ((last + 1) % wheel, 1);
+            let waiting = loss_flag(wheel, &[&units[..], &[next]].concat());
             assert_eq!(*reader, Reader { last: Some(last as u32), waiting }, "{units:?}");
         }
         None => assert_eq!(*reader, Reader::START),
@@ -461,16 +483,15 @@ fn read_on(
 
 /// Settings of a channel of bits, with a small zone.
 fn bit_settings(random: &mut Random) -> bitstream::Settings {
-    let Settings { spacecraft, channel, fill, trailer, .. } = generate::settings(random);
-    let width = random.within(1, 6);
-    bitstream::Settings { spacecraft, channel, width, fill, trailer }
+    bitstream::Settings { width: random.within(1, 6), ..generate::bit_settings(random) }
 }
 
 /// Frames of bits as they come in, most of them fill: some are lost, some come twice, some are
 /// spoilt, and some come after a spoilt one. At times the counts begin again.
 fn bit_frames(random: &mut Random, settings: &bitstream::Settings) -> Vec<Vec<u8>> {
-    let bitstream::Settings { width, trailer, .. } = *settings;
-    let start = random.pick(&[0, 5_000, 16_777_206]) + random.within(0, 9) as u32;
+    let bitstream::Settings { width, edition, .. } = *settings;
+    let near = generate::before_a_turn(random, edition, 10);
+    let start = random.pick(&[0, 5_000, near]) + random.within(0, 9) as u32;
     let mut writer = Writer { count: start };
     let mut frames = vec![];
     for _ in 0..random.within(1, 60) {
@@ -479,7 +500,7 @@ fn bit_frames(random: &mut Random, settings: &bitstream::Settings) -> Vec<Vec<u8
         let mut frame = vec![0; settings.frame_length()];
         bitstream::write(settings, &mut writer, &bits, number, &mut frame).unwrap();
         let mut spoilt = frame.clone();
-        generate::spoil_bits(random, width, trailer, &mut spoilt);
+        generate::spoil_bits(random, settings, &mut spoilt);
         match random.within(1, 16) {
             1 => {}
             2 => frames.extend([frame.clone(), frame]),
@@ -524,23 +545,31 @@ fn loss_flags_are_those_of_the_rules() {
 /// it, with bits or without; and for a frame that is refused, anywhere in them.
 #[test]
 fn loss_flags_of_every_short_run() {
+    for edition in Edition::ALL {
+        loss_flags_of_every_run_from(edition, wheel(edition) - 3);
+    }
+    loss_flags_of_every_run_from(Edition::CycleUsed, 16_777_213);
+}
+
+fn loss_flags_of_every_run_from(edition: Edition, start: usize) {
+    let (fill, trailer) = (0, false);
     let settings =
-        bitstream::Settings { spacecraft: 66, channel: 3, width: 1, fill: 0, trailer: false };
+        bitstream::Settings { spacecraft: 66, channel: 3, width: 1, fill, trailer, edition };
     let frame = |count: u32, number: usize| {
         let mut frame = [0; 9];
         bitstream::write(&settings, &mut Writer { count }, &[0x71], number, &mut frame).unwrap();
         frame
     };
     let kinds = [(0, 0), (0, 5), (1, 0), (1, 5), (2, 0), (2, 5)];
-    let mut runs = vec![(16_777_213, Reader::START, vec![])];
+    let mut runs = vec![(start as u32, Reader::START, vec![])];
     for _ in 0..6 {
         let mut longer = vec![];
         for (last, mut reader, mut units) in runs {
             let mut refused = frame(last, 5);
-            refused[5] = 0x01;
+            refused[5] ^= 0x10;
             assert_eq!(read_on(&settings, &mut reader, &mut units, &refused), Err(6));
             for (ahead, number) in kinds {
-                let count = (last + ahead) % 16_777_216;
+                let count = (last + ahead) % wheel(edition) as u32;
                 let (mut reader, mut units) = (reader, units.clone());
                 read_on(&settings, &mut reader, &mut units, &frame(count, number)).unwrap();
                 longer.push((count, reader, units));

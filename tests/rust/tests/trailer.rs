@@ -4,14 +4,32 @@ use itzahuemo_reference::calls::{Calls, Reference};
 use itzahuemo_reference::generate::{seal, WRONG_REMAINDERS};
 use itzahuemo_reference::random::Random;
 use itzahuemo_reference::reference::bitstream::{self, Reader, Writer};
+use itzahuemo_reference::reference::edition::Edition;
 use itzahuemo_reference::reference::extractor::{self, Reason, Record, Step};
 use itzahuemo_reference::reference::frame::{self, Settings};
 use itzahuemo_reference::reference::trailer::{entry, is_right, remainder, remainder_by_bits};
 use itzahuemo_reference::reference::{judge, multiplexer, Refusal};
 
 /// The channel of document 01's sample run, with trailers.
-const CHANNEL: Settings =
-    Settings { spacecraft: 66, channel: 3, zone: 10, limit: 1_024, fill: 0x55, trailer: true };
+const CHANNEL: Settings = Settings {
+    spacecraft: 66,
+    channel: 3,
+    zone: 10,
+    limit: 1_024,
+    fill: 0x55,
+    trailer: true,
+    edition: Edition::Former,
+};
+
+/// A channel of bits with trailers.
+const BIT_CHANNEL: bitstream::Settings = bitstream::Settings {
+    spacecraft: 66,
+    channel: 3,
+    width: 2,
+    fill: 0x55,
+    trailer: true,
+    edition: Edition::Former,
+};
 
 /// The frames of the sample run with their trailers.
 const FIRST: [u8; 20] = [
@@ -314,24 +332,22 @@ fn steps_do_not_look_at_the_trailer() {
 
 #[test]
 fn bits() {
-    let settings =
-        bitstream::Settings { spacecraft: 66, channel: 3, width: 2, fill: 0x55, trailer: true };
     let (mut writer, mut reader) = (Writer { count: 4 }, Reader { last: Some(3), waiting: false });
     let before = [0x50, 0x83, 0, 0, 4, 0, 0, 2, 0b0111_0101, 0x55];
     for size in [0, 10, 11] {
         let mut frame = [0x77; 13];
-        let written = bitstream::write(&settings, &mut writer, &[0x60], 3, &mut frame[..size]);
+        let written = bitstream::write(&BIT_CHANNEL, &mut writer, &[0x60], 3, &mut frame[..size]);
         assert_eq!((written, frame), (Err(Refusal::Room), [0x77; 13]));
     }
     let mut frame = [0x77; 13];
-    bitstream::write(&settings, &mut writer, &[0x60], 3, &mut frame).unwrap();
+    bitstream::write(&BIT_CHANNEL, &mut writer, &[0x60], 3, &mut frame).unwrap();
     assert_eq!(frame[..10], before);
     assert_eq!(frame[10..12], by_division(&before).to_be_bytes());
     assert_eq!(frame[12], 0x77);
 
     let frame = &frame[..12];
     let mut read = |frame: &[u8]| {
-        bitstream::read(&settings, &mut reader, frame)
+        bitstream::read(&BIT_CHANNEL, &mut reader, frame)
             .map(|bits| (bits.number, bits.octets.to_vec(), bits.loss))
     };
     for size in [0, 1, 10, 11] {
@@ -351,12 +367,12 @@ fn bits() {
     assert_eq!(read(frame), Ok((3, vec![0b0111_0101], true)));
 }
 
-/// In an array the setting is the last number, 0 or 1. An array without it is too short, which is
-/// said before all else.
+/// In an array the setting is the last number but one, 0 or 1. An array without it is too short,
+/// which is said before all else.
 #[test]
 fn the_number_of_the_setting() {
-    let channel = [66, 3, 10, 64, 0x55, 1];
-    let bit_channel = [66, 3, 10, 0x55, 1];
+    let channel = [66, 3, 10, 64, 0x55, 1, 0];
+    let bit_channel = [66, 3, 10, 0x55, 1, 0];
     for (number, expected) in
         [(0, 3), (1, 0), (2, 1), (3, 1), (255, 1), (257, 1), ((1 << 32) + 1, 1), (u64::MAX, 1)]
     {
@@ -402,8 +418,7 @@ fn the_longest_frames() {
     assert_eq!(frame[2_056], 0x77);
     assert!(frame::read(&settings, &frame[..2_056]).is_ok());
 
-    let settings =
-        bitstream::Settings { spacecraft: 66, channel: 3, width: 2_047, fill: 0x55, trailer: true };
+    let settings = bitstream::Settings { width: 2_047, ..BIT_CHANNEL };
     bitstream::write(&settings, &mut Writer::START.clone(), &[], 0, &mut frame).unwrap();
     assert_eq!(frame[2_055..], by_division(&frame[..2_055]).to_be_bytes());
     assert!(bitstream::read(&settings, &mut Reader::START.clone(), &frame).is_ok());

@@ -485,7 +485,8 @@ fn settings_without_the_number() {
         let behind = usize::from(call == "bits_write");
         let place = place_of_setting(call);
         if all.numbers.len() == place + behind {
-            all.numbers.insert(place, 0);
+            // The setting behind it is not there either.
+            all.numbers.splice(place..place, [0, 0]);
         }
         by_reference(call, all)
     });

@@ -28,6 +28,7 @@ use itzahuemo_reference::generate;
 use itzahuemo_reference::hearing::{ByCalls, Hearing};
 use itzahuemo_reference::plain::{self, Event};
 use itzahuemo_reference::random::Random;
+use itzahuemo_reference::reference::edition::Edition;
 use itzahuemo_reference::reference::extractor::{self, Step};
 use itzahuemo_reference::reference::frame::Settings;
 use itzahuemo_reference::reference::runfile::{self, aosread};
@@ -35,8 +36,15 @@ use itzahuemo_reference::reference::{judge, multiplexer, relay};
 
 const SEED: u64 = 7_321;
 
-const CHANNEL: Settings =
-    Settings { spacecraft: 66, channel: 3, zone: 1_000, limit: 1_024, fill: 0x55, trailer: false };
+const CHANNEL: Settings = Settings {
+    spacecraft: 66,
+    channel: 3,
+    zone: 1_000,
+    limit: 1_024,
+    fill: 0x55,
+    trailer: false,
+    edition: Edition::Former,
+};
 
 const WITH_TRAILER: Settings = Settings { trailer: true, ..CHANNEL };
 

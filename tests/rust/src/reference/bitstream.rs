@@ -2,7 +2,8 @@
 
 use std::ops::RangeInclusive;
 
-use super::frame::{self, read_primary, write_primary, HEAD, LAST_CHANNEL, WHEEL};
+use super::edition::Edition;
+use super::frame::{read_primary, write_primary, HEAD, LAST_CHANNEL};
 use super::{require, trailer, Refusal};
 
 /// The zone lengths that may be set.
@@ -25,6 +26,7 @@ pub struct Settings {
     pub fill: u8,
     /// Whether frames end with a trailer.
     pub trailer: bool,
+    pub edition: Edition,
 }
 
 impl Settings {
@@ -67,14 +69,14 @@ pub struct Reader {
 impl Reader {
     pub const START: Reader = Reader { last: None, waiting: false };
 
-    fn check(&self) -> Result<(), Refusal> {
-        let reachable = self.last.map_or(!self.waiting, |last| last < WHEEL);
+    fn check(&self, edition: Edition) -> Result<(), Refusal> {
+        let reachable = self.last.map_or(!self.waiting, |last| last < edition.wheel());
         require(reachable, Refusal::Record)
     }
 
     /// Whether a frame of this count follows the last one; the first frame does.
-    fn is_followed_by(&self, count: u32) -> bool {
-        self.last.map_or(true, |last| frame::missing(last, count) == 0)
+    fn is_followed_by(&self, edition: Edition, count: u32) -> bool {
+        self.last.map_or(true, |last| edition.missing(last, count) == 0)
     }
 }
 
@@ -109,7 +111,8 @@ pub fn write(
     require(number <= settings.bits(), Refusal::Range)?;
     let octets = octets_for(number);
     require(frame.len() >= settings.frame_length() && bits.len() >= octets, Refusal::Room)?;
-    require(writer.count < WHEEL, Refusal::Record)?;
+    let Settings { spacecraft, channel, edition, .. } = *settings;
+    require(writer.count < edition.wheel(), Refusal::Record)?;
 
     let zone = &mut frame[HEAD..settings.zone_end()];
     zone.fill(settings.fill);
@@ -119,12 +122,12 @@ pub fn write(
         let filled = 0xFF >> over;
         zone[octets - 1] = bits[octets - 1] & !filled | settings.fill & filled;
     }
-    write_primary(settings.spacecraft, settings.channel, writer.count, frame);
+    write_primary(spacecraft, channel, edition, writer.count, frame);
     frame[6..HEAD].copy_from_slice(&pointer(settings, number).to_be_bytes());
     if settings.trailer {
         trailer::write(&mut frame[..settings.frame_length()]);
     }
-    writer.count = frame::next(writer.count);
+    writer.count = edition.next(writer.count);
     Ok(())
 }
 
@@ -145,10 +148,11 @@ pub fn read<'a>(
     frame: &'a [u8],
 ) -> Result<Bits<'a>, Refusal> {
     settings.check()?;
-    reader.check()?;
+    let Settings { spacecraft, channel, edition, .. } = *settings;
+    reader.check(edition)?;
     require(frame.len() == settings.frame_length(), Refusal::Length)?;
     require(!settings.trailer || trailer::is_right(frame), Refusal::Trailer)?;
-    let (count, replay) = read_primary(settings.spacecraft, settings.channel, frame)?;
+    let (count, replay) = read_primary(spacecraft, channel, edition, frame)?;
     let word = u16::from_be_bytes([frame[6], frame[7]]);
     require(word >> 14 == 0, Refusal::Spare)?;
     let number = match word {
@@ -157,7 +161,7 @@ pub fn read<'a>(
         _ => usize::from(word) + 1,
     };
     require(word >= NO_BITS || number < settings.bits(), Refusal::Pointer)?;
-    let lost = reader.waiting || !reader.is_followed_by(count);
+    let lost = reader.waiting || !reader.is_followed_by(edition, count);
     let (loss, waiting) = if number == 0 { (false, lost) } else { (lost, false) };
     *reader = Reader { last: Some(count), waiting };
     let octets = &frame[HEAD..HEAD + octets_for(number)];

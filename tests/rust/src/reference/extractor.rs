@@ -3,7 +3,7 @@
 //! A frame is entered, then stepped until a step says spent. The front of a
 //! packet that runs past its zone is held in a store until it is complete.
 
-use super::frame::{self, Head, Settings, HEAD, IDLE_ZONE, NO_START, WHEEL};
+use super::frame::{self, Head, Settings, HEAD, IDLE_ZONE, NO_START};
 use super::packet::{look, Damage, Kind, Look, LONGEST_HEADER};
 use super::{require, Refusal};
 
@@ -24,13 +24,14 @@ pub enum Record {
 
 impl Record {
     fn is_reachable(&self, settings: &Settings, store: &[u8]) -> bool {
+        let wheel = settings.edition.wheel();
         let holds = |held| holds_well(settings.limit, held, store);
         match *self {
             Record::Fresh => true,
-            Record::OutOfStep { last } | Record::Leaving { last } => last < WHEEL,
-            Record::InStep { last, held } => last < WHEEL && holds(held),
-            Record::Walking { last, held: 0, at } => last < WHEEL && at <= settings.zone,
-            Record::Walking { last, held, at } => last < WHEEL && at == 0 && holds(held),
+            Record::OutOfStep { last } | Record::Leaving { last } => last < wheel,
+            Record::InStep { last, held } => last < wheel && holds(held),
+            Record::Walking { last, held: 0, at } => last < wheel && at <= settings.zone,
+            Record::Walking { last, held, at } => last < wheel && at == 0 && holds(held),
         }
     }
 }
@@ -204,7 +205,7 @@ pub(crate) fn begin(
     head: Head,
     zone: &[u8],
 ) -> (Entered, Option<Walk>) {
-    let lost = last.map_or(0, |last| frame::missing(last, head.count));
+    let lost = last.map_or(0, |last| settings.edition.missing(last, head.count));
     let reason = match held {
         _ if lost != 0 => Reason::Gap,
         Some(held) => disagreement(settings, &store[..held], head.pointer, zone),

@@ -2,14 +2,12 @@
 
 use std::ops::RangeInclusive;
 
+use super::edition::Edition;
 use super::packet::LIMITS;
 use super::{require, trailer, Refusal};
 
 /// Octets in front of a zone.
 pub const HEAD: usize = 8;
-
-/// Counts run round a wheel of this many.
-pub const WHEEL: u32 = 1 << 24;
 
 /// The pointer of a zone in which no packet starts.
 pub const NO_START: u16 = 2_047;
@@ -36,6 +34,7 @@ pub struct Settings {
     pub fill: u8,
     /// Whether frames end with a trailer.
     pub trailer: bool,
+    pub edition: Edition,
 }
 
 impl Settings {
@@ -77,7 +76,8 @@ pub struct Head {
 pub fn read(settings: &Settings, frame: &[u8]) -> Result<Head, Refusal> {
     require(frame.len() == settings.frame_length(), Refusal::Length)?;
     require(!settings.trailer || trailer::is_right(frame), Refusal::Trailer)?;
-    let (count, replay) = read_primary(settings.spacecraft, settings.channel, frame)?;
+    let Settings { spacecraft, channel, edition, .. } = *settings;
+    let (count, replay) = read_primary(spacecraft, channel, edition, frame)?;
     let word = u16::from_be_bytes([frame[6], frame[7]]);
     require(word >> 11 == 0, Refusal::Spare)?;
     let possible = usize::from(word) < settings.zone || word == IDLE_ZONE || word == NO_START;
@@ -87,7 +87,8 @@ pub fn read(settings: &Settings, frame: &[u8]) -> Result<Head, Refusal> {
 
 /// Writes the header of a frame under settings in range; the rest is left alone.
 pub fn write(settings: &Settings, count: u32, pointer: u16, frame: &mut [u8]) {
-    write_primary(settings.spacecraft, settings.channel, count, frame);
+    let Settings { spacecraft, channel, edition, .. } = *settings;
+    write_primary(spacecraft, channel, edition, count, frame);
     frame[6..HEAD].copy_from_slice(&pointer.to_be_bytes());
 }
 
@@ -95,31 +96,28 @@ pub fn write(settings: &Settings, count: u32, pointer: u16, frame: &mut [u8]) {
 pub(crate) fn read_primary(
     spacecraft: u8,
     channel: u8,
+    edition: Edition,
     frame: &[u8],
 ) -> Result<(u32, bool), Refusal> {
     let word = u16::from_be_bytes([frame[0], frame[1]]);
     require(word >> 14 == 0b01, Refusal::Version)?;
     let named = u16::from(spacecraft) << 6 | u16::from(channel);
     require(word & 0x3FFF == named, Refusal::Channel)?;
-    require(frame[5] & 0x7F == 0, Refusal::Spare)?;
-    let count = u32::from_be_bytes([0, frame[2], frame[3], frame[4]]);
+    let field = u32::from_be_bytes([0, frame[2], frame[3], frame[4]]);
+    let count = edition.count(field, frame[5])?;
     Ok((count, frame[5] & 0x80 != 0))
 }
 
 /// Writes the first six octets, with the replay flag 0.
-pub(crate) fn write_primary(spacecraft: u8, channel: u8, count: u32, frame: &mut [u8]) {
+pub(crate) fn write_primary(
+    spacecraft: u8,
+    channel: u8,
+    edition: Edition,
+    count: u32,
+    frame: &mut [u8],
+) {
     let word = 0b01 << 14 | u16::from(spacecraft) << 6 | u16::from(channel);
     frame[0..2].copy_from_slice(&word.to_be_bytes());
     frame[2..5].copy_from_slice(&count.to_be_bytes()[1..]);
-    frame[5] = 0;
-}
-
-/// The frames missing between two counts round the wheel.
-pub fn missing(last: u32, count: u32) -> u32 {
-    count.wrapping_sub(last).wrapping_sub(1) % WHEEL
-}
-
-/// The count after this one.
-pub(crate) fn next(count: u32) -> u32 {
-    (count + 1) % WHEEL
+    frame[5] = edition.signalling(count);
 }

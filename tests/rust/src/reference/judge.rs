@@ -1,10 +1,10 @@
 //! The judge of a recorded run.
 
 use super::extractor::{begin, holds_well, walk_on, Reason, Walk, Walked};
-use super::frame::{self, Settings, WHEEL};
+use super::frame::{self, Settings};
 use super::{require, Refusal};
 
-/// A judged run has at most this many frames.
+/// A judged run has at most this many frames, however wide its counts are.
 pub const MOST_FRAMES: u32 = 1 << 24;
 
 /// Where the judge stands.
@@ -33,7 +33,7 @@ impl Record {
             Record::Open => true,
             Record::Sound { tally, last, held } => {
                 (1..=MOST_FRAMES).contains(&tally)
-                    && last < WHEEL
+                    && last < settings.edition.wheel()
                     && held <= tally as usize * settings.zone
                     && holds_well(settings.limit, held, store)
             }

@@ -1,6 +1,6 @@
 //! Packets laid end to end into zones.
 
-use super::frame::{self, Settings, HEAD, IDLE_ZONE, NO_START, WHEEL};
+use super::frame::{self, Settings, HEAD, IDLE_ZONE, NO_START};
 use super::packet::well_formed;
 use super::{require, trailer, Refusal};
 
@@ -29,7 +29,7 @@ impl Record {
         } else {
             self.filled == 0 && self.first == NO_START && self.taken < settings.limit
         };
-        self.count < WHEEL && place
+        self.count < settings.edition.wheel() && place
     }
 }
 
@@ -127,7 +127,7 @@ fn finish(settings: &Settings, record: &mut Record, frame: &mut [u8]) {
     if settings.trailer {
         trailer::write(&mut frame[..settings.frame_length()]);
     }
-    record.count = frame::next(record.count);
+    record.count = settings.edition.next(record.count);
     record.filled = 0;
     record.first = NO_START;
 }

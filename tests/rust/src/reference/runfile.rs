@@ -5,6 +5,7 @@
 
 use std::fmt::Write;
 
+use super::edition::Edition;
 use super::extractor::{self, Step};
 use super::frame::Settings;
 use super::judge::{self, Verdict};
@@ -74,6 +75,7 @@ fn setup(body: &[u8]) -> Option<Settings> {
             limit: u32::from_be_bytes([0, m2, m1, m0]) as usize,
             fill: 0,
             trailer: false,
+            edition: Edition::Former,
         },
         _ => return None,
     };
