@@ -12,7 +12,8 @@
 //! ```
 //!
 //! The input is made first, and all sides are lent the same buffers. A work whose name ends in
-//! `-trailer` is the one of the name before that, on frames with trailers.
+//! `-trailer` is the one of the name before that, on frames with trailers, and one whose name ends in
+//! `-cycle` on frames whose counts have a cycle above them.
 
 use std::env;
 use std::error::Error;
@@ -48,10 +49,16 @@ const CHANNEL: Settings = Settings {
 
 const WITH_TRAILER: Settings = Settings { trailer: true, ..CHANNEL };
 
+const WITH_CYCLE: Settings = Settings { edition: Edition::CycleUsed, ..CHANNEL };
+
+const CHANNELS: [Settings; 3] = [CHANNEL, WITH_TRAILER, WITH_CYCLE];
+
 /// The channel of a work.
 fn channel_of(work: &str) -> Settings {
     if work.ends_with("-trailer") {
         WITH_TRAILER
+    } else if work.ends_with("-cycle") {
+        WITH_CYCLE
     } else {
         CHANNEL
     }
@@ -74,8 +81,8 @@ fn done(arguments: &[&str]) -> Result<(), Box<dyn Error>> {
         ["run", frames] => write_run(frames.parse()?),
         ["read"] => read_run(),
         ["compare", frames] => {
-            compare(&Input::new(CHANNEL, frames.parse()?))?;
-            compare(&Input::new(WITH_TRAILER, frames.parse()?))
+            let frames = frames.parse()?;
+            CHANNELS.into_iter().try_for_each(|channel| compare(&Input::new(channel, frames)))
         }
         ["work", work, side, frames, rounds] => {
             let side = side_of(work, side)?;
@@ -87,9 +94,8 @@ fn done(arguments: &[&str]) -> Result<(), Box<dyn Error>> {
             Ok(())
         }
         ["times", frames, rounds, run, program] => {
-            let inputs = [CHANNEL, WITH_TRAILER];
             let frames = frames.parse()?;
-            let inputs = inputs.map(|settings| Input::new(settings, frames));
+            let inputs = CHANNELS.map(|channel| Input::new(channel, frames));
             times(&inputs, rounds.parse()?, run, program)
         }
         _ => Err("no such use; its source says which there are".into()),
@@ -138,7 +144,7 @@ type Outcome = [u64; 4];
 type Side = fn(&Input, &mut [u8]) -> Outcome;
 
 /// Every work with its sides, the library's first.
-const SIDES: [(&str, &str, Side); 14] = [
+const SIDES: [(&str, &str, Side); 17] = [
     ("extractor", "library", extractor_by_library),
     ("extractor", "reference", extractor_by_reference),
     ("extractor", "plain", extractor_by_plain),
@@ -153,6 +159,9 @@ const SIDES: [(&str, &str, Side); 14] = [
     ("extractor-trailer", "plain", extractor_by_plain),
     ("multiplexer-trailer", "library", multiplexer_by_library),
     ("multiplexer-trailer", "reference", multiplexer_by_reference),
+    ("extractor-cycle", "library", extractor_by_library),
+    ("extractor-cycle", "reference", extractor_by_reference),
+    ("extractor-cycle", "plain", extractor_by_plain),
 ];
 
 fn side_of(work: &str, side: &str) -> Result<Side, String> {
@@ -439,7 +448,7 @@ fn read_run() -> Result<(), Box<dyn Error>> {
 /// The best round of each side. In a round every side has its turn. The inputs are one for each
 /// channel.
 fn times(
-    inputs: &[Input; 2],
+    inputs: &[Input; CHANNELS.len()],
     rounds: usize,
     run: &str,
     program: &str,
@@ -449,13 +458,17 @@ fn times(
         ("program", "library", vec![program.as_ref()]),
         ("program", "reference", vec![own.as_os_str(), "read".as_ref()]),
     ];
-    let [without, with] = inputs;
-    let mut output = vec![0; with.frames.len()];
+    let input_of = |work: &str| {
+        let of_channel = inputs.iter().find(|input| input.settings == channel_of(work));
+        of_channel.expect("an input for each channel")
+    };
+    let longest = inputs.iter().map(|input| input.frames.len()).max();
+    let mut output = vec![0; longest.unwrap_or(0)];
     let mut best = [Duration::MAX; SIDES.len() + 2];
     for _ in 0..rounds {
         let (by_call, by_program) = best.split_at_mut(SIDES.len());
         for ((work, _, side), best) in SIDES.iter().zip(by_call) {
-            let input = if channel_of(work).trailer { with } else { without };
+            let input = input_of(work);
             let output = &mut output[..input.frames.len()];
             let start = Instant::now();
             side(input, output);
@@ -471,7 +484,7 @@ fn times(
     }
     let names = SIDES.iter().map(|side| (side.0, side.1));
     let names = names.chain(programs.iter().map(|program| (program.0, program.1)));
-    let frames = without.frames().count() as u128;
+    let frames = inputs[0].frames().count() as u128;
     for ((work, side), best) in names.zip(best) {
         println!("{work} {side} {}", best.as_nanos() / frames);
     }
