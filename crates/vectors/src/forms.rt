@@ -34,8 +34,9 @@ pub(crate) enum Verb {
     Note,
     // What each line that is printed begins with, from here on.
     Label,
-    // A channel at its beginning, for packets and for bits.
+    // A channel at its beginning, for packets and for bits; and one with headers of 732.0-B-3.
     Channel,
+    NewChannel,
     // Trailers on the channel's frames, from here on.
     Trailers,
     // Calls of the multiplexer; a packet is put until it is taken.
@@ -78,7 +79,7 @@ pub(crate) struct Asked {
     pub(crate) numbers: Numbers,
 }
 
-pub(crate) const NONE: Numbers = Numbers {
+const NONE: Numbers = Numbers {
     fit: false,
     end: 0,
     first: 0,
@@ -115,6 +116,7 @@ fn verb_at(k: usize) -> Verb {
         21 => Verb::Route,
         22 => Verb::Trailers,
         23 | 24 => Verb::Ask(Question::Remainder),
+        25 => Verb::NewChannel,
         _ => Verb::Unknown,
     }
 }
@@ -249,6 +251,7 @@ route into % octets: $
 trailers
 remainder $
 remainder of nothing
+channel % of spacecraft %, zone %, limit %, count usage %
 ";
     find(forms, line)
 }
