@@ -18,7 +18,7 @@ use Rattle.trailer.proofs.Setting.{length-sent, sent-octets, sent-front, sent-r
 use Rattle.frames.specs.Link.{count-width, next-count, primary, head-word, headers}
 use Rattle.frames.specs.BitFrame.{bits-in-range, bit-frame-length, bit-count, most-bits, fill-only, bit-head, bit-pointer-word}
 use Rattle.frames.specs.declared.bits.BitSettings.{BitSettings}
-use Rattle.frames.proofs.Wheel.{count-lt, count-wide, follows-another}
+use Rattle.frames.proofs.Wheel.{count-lt, count-wide, starts-on-wheel, follows-another}
 use Rattle.frames.proofs.bits.Settled.{bits-settled}
 use Rattle.frames.proofs.bits.Heads.{length-bit-head, bit-head-back, bit-frame-taken}
 use Rattle.bitstream.specs.Bitstream.{octets-for, writer-reachable, write-rows, pointer-for, valid-bits, Wrote, written, reader-reachable, read-rows, untold, next-reader, reading}
@@ -50,7 +50,7 @@ reader-kept s x f h = go (eqb (first (read-rows s x f)) 0) refl
 
 pub writer-passes : (s : BitSettings) (w : Writer) → WriterReached s w → writer-reachable s w ≡ true
 unfolding writer-reachable
-writer-passes s w nothing-written = lt-ltb 0 (2 ^ count-width (s .link)) (pow-pos (count-width (s .link)))
+writer-passes s w nothing-written = starts-on-wheel (s .link)
 writer-passes s w (wrote-more {w = v} bits n d _ _ r) = writer-kept s v bits n d (writer-passes s v r)
 
 pub reader-passes : (s : BitSettings) (x : Reader) → ReaderReached s x → reader-reachable s x ≡ true

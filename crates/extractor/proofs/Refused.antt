@@ -3,17 +3,17 @@
 use mathlib.Core.Path.{_≡_, refl, sym, ap, _∙_}
 use mathlib.Core.List.{List, [], _∷_}
 use mathlib.Core.Bool.{Bool, true, false, not}
-use Prim.Native.Nat.{ℕ, _^_}
-use lib.Pow.{pow-pos}
+use Prim.Native.Nat.{ℕ}
 use native.Mathlib.Omega.{arith}
 use lib.ListN.{length}
 use lib.Dec.{ltb, eqb}
-use borrow.Author.Tests.{lt-ltb, le-leb, eq-eqb, ne-eqb, eqb-false}
+use borrow.Author.Tests.{le-leb, eq-eqb, ne-eqb, eqb-false}
 use Rattle.octets.specs.Basics.{pick, and, Row, row, first}
 use Rattle.octets.proofs.Tests.{test}
-use Rattle.frames.specs.Link.{count-width, header-rows}
+use Rattle.frames.specs.Link.{header-rows}
 use Rattle.frames.specs.Frame.{in-range, frame-rows, heading-rows}
 use Rattle.frames.specs.declared.Settings.{Settings}
+use Rattle.frames.proofs.Wheel.{starts-on-wheel}
 use Rattle.extractor.specs.Records.{on-wheel, holds-well, reachable, held-in, checked}
 use Rattle.extractor.specs.Walks.{last-in, at-in, reached}
 use Rattle.extractor.specs.declared.Extractor.{Extractor}
@@ -28,7 +28,7 @@ and-yes false = refl
 -- the same test of every record, by its numbers
 by-numbers : (s : Settings) (store : List ℕ) (x : Extractor) → reachable s store x ≡ reached s store (last-in x) (held-in x) (at-in x)
 unfolding reachable reached holds-well
-by-numbers s store Fresh = rw (lt-ltb 0 (2 ^ count-width (s .link)) (pow-pos (count-width (s .link))), le-leb 0 (s .zone) (omega arith)) refl
+by-numbers s store Fresh = rw (starts-on-wheel (s .link), le-leb 0 (s .zone) (omega arith)) refl
 by-numbers s store (Astray last) = rw (le-leb 0 (s .zone) (omega arith)) (and-yes _)
 by-numbers s store (InStep last h) = ap (and (on-wheel s last)) (test (eqb h 0) (λ t. rw (t, le-leb 0 (s .zone) (omega arith)) refl) (λ t. rw t refl))
 by-numbers s store (Walking last h at) = refl

@@ -14,15 +14,16 @@ use Rattle.octets.proofs.Numbers.{octets-again}
 use Rattle.words.specs.Fields.{field, read}
 use Rattle.words.proofs.Fields.{field-rest}
 use Rattle.frames.specs.Edition.{own-width, cycle-place, usage, cycle-width, count-in, signalling}
-use Rattle.frames.specs.Link.{link-in-range, primary, zone-head, header-rows, written-rows, count-width, head-word, headers}
+use Rattle.frames.specs.Link.{link-in-range, primary, zone-head, header-rows, written-rows, count-width, head-word, headers, next-count}
 use Rattle.frames.specs.Frame.{in-range, heading-rows, frame-rows, heading, head, head-rows}
 use Rattle.frames.specs.BitFrame.{bits-in-range, bit-heading-rows, bit-frame-rows, bit-heading, bit-head, bit-head-rows}
-use Rattle.frames.specs.Editions.{link-by, AsOctets, SameOctets, Editions}
-use Rattle.frames.specs.declared.Edition.{Edition}
+use Rattle.frames.specs.Editions.{link-by, AsOctets, Wheels, SameOctets, Editions}
 use Rattle.frames.specs.declared.Edition.the-variants.{CycleUnused}
 use Rattle.frames.specs.declared.Link.{Link}
 use Rattle.frames.proofs.Settled.{linked}
 use Rattle.frames.proofs.Signals.{two-fields, same-signals, usage-small, cycle-narrow}
+use Rattle.frames.proofs.Taken.{taken}
+use Rattle.frames.proofs.Wheel.{after-missing, missing-lt}
 use Rattle.frames.proofs.ReadBack.{version-written, spacecraft-written, channel-written, own-written, replay-written, signal-fields, cycle-written, head-word-lt}
 
 -- ---- the octets
@@ -30,7 +31,7 @@ use Rattle.frames.proofs.ReadBack.{version-written, spacecraft-written,
 -- the low 24 bits of a number as three octets
 count-octets : (c : ℕ) → c / 65536 % 256 * 65536 + c / 256 % 256 * 256 + c % 256 ≡ c % 2 ^ own-width
 count-octets c =
-    let low : c % 2 ^ 24 ≡ c / 256 % 65536 * 256 + c % 256 = mod-pow-add c 16 8 in
+    let low : c % 2 ^ own-width ≡ c / 256 % 65536 * 256 + c % 256 = mod-pow-add c 16 8 in
     let high : c / 256 % 65536 ≡ c / 65536 % 256 * 256 + c / 256 % 256 = mod-pow-add (c / 256) 8 8 ∙ rw (shr-shr c 8 8) refl in
     omega arith
 
@@ -78,7 +79,7 @@ module _ (l : Link) (c r z : ℕ) (range : link-in-range l ≡ true) (fits : c <
       let version : field word 0 48 ≡ field word 46 2 * 2 ^ 46 + field word 0 46 = two-fields word 0 2 46 in
       let spacecraft : field word 0 46 ≡ field word 38 8 * 2 ^ 38 + field word 0 38 = two-fields word 0 8 38 in
       let channel : field word 0 38 ≡ field word 32 6 * 2 ^ 32 + field word 0 32 = two-fields word 0 6 32 in
-      let own : field word 0 32 ≡ field word 8 24 * 2 ^ 8 + field word 0 8 = two-fields word 0 24 8 in
+      let own : field word 0 32 ≡ field word 8 own-width * 2 ^ 8 + field word 0 8 = two-fields word 0 own-width 8 in
       let replay : field word 0 8 ≡ field word 7 1 * 2 ^ 7 + field word 0 7 = two-fields word 0 1 7 in
       let used : field word 0 7 ≡ field word 6 1 * 2 ^ 6 + field word 0 6 = two-fields word 0 1 6 in
       let spare : field word 0 6 ≡ field word 4 2 * 2 ^ 4 + field word 0 4 = two-fields word 0 2 4 in
@@ -138,5 +139,16 @@ same-octets = record {
   bits-unwritten = λ s c p buffer. refl;
 }
 
+wheels : Wheels
+unfolding usage cycle-width count-width next-count
+wheels = record {
+  former = λ l. refl;
+  unused = λ l. refl;
+  used = λ l. refl;
+  next = λ width c. refl;
+  missing-before = after-missing;
+  fewer = missing-lt;
+}
+
 pub editions : Editions
-editions = record { as-octets = as-octets; same-octets = same-octets }
+editions = record { as-octets = as-octets; taken = taken; wheels = wheels; same-octets = same-octets }

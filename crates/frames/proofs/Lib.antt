@@ -7,6 +7,7 @@ pub mod ReadBack
 pub mod Rows
 pub mod Settled
 pub mod Signals
+mod Taken
 pub mod Theorems
 pub mod Wheel
 pub mod Worth

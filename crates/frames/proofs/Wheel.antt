@@ -1,11 +1,14 @@
 -- The wheel of a count, over any width: differences that wrap at a word's width, and then at the wheel's.
 -- Assumes nothing.
+use mathlib.Core.Bool.{true}
 use mathlib.Core.Logic.{_↔_}
 use mathlib.Core.Path.{_≡_, refl, sym, ap, _∙_}
 use Prim.Native.Nat.{ℕ, _+_, _-_, _*_, _/_, _%_, _^_, _≤_, _<_}
 use native.Mathlib.Nat.{add-comm, mod-add-mod, mod-lt, mod-eq-of-lt, mod-self, zero-mod, div-add-mod', add-mul-mod-self-right, add-mul}
 use native.Mathlib.Omega.{arith}
+use lib.Dec.{ltb}
 use lib.Pow.{pow-pos, pow-mono, pow-lt, mod-mod-pow}
+use borrow.Author.Tests.{lt-ltb}
 use Rattle.octets.proofs.Choices.{split}
 use Rattle.frames.specs.Edition.{count-in}
 use Rattle.frames.specs.Link.{count-width, next-count, missing}
@@ -32,7 +35,7 @@ missing-wraps bits width last c d r h p q =
     (sym (mod-mod-pow (r + 1 + last) (bits - width) width) ∙ ap (λ (k : ℕ). (r + 1 + last) % 2 ^ k % 2 ^ width) (sym e) ∙ ap (λ (x : ℕ). x % 2 ^ width) w)
 
 -- c comes after `last`, the frames that are missing and one more
-after-missing : (width last c : ℕ) → (missing width last c + (last + 1)) % 2 ^ width ≡ c % 2 ^ width
+pub after-missing : (width last c : ℕ) → (missing width last c + (last + 1)) % 2 ^ width ≡ c % 2 ^ width
 unfolding missing
 after-missing width last c =
     let m : ℕ = 2 ^ width in
@@ -58,9 +61,12 @@ none-missing width last c small = (
 abbrev pub count-before : ℕ → ℕ → ℕ
 count-before width c = missing width 0 c
 
-pub before-on-wheel : (width c : ℕ) → count-before width c < 2 ^ width
+pub missing-lt : (width last c : ℕ) → missing width last c < 2 ^ width
 unfolding missing
-before-on-wheel width c = mod-lt (c + 2 ^ width - (0 % 2 ^ width + 1)) (pow-pos width)
+missing-lt width last c = mod-lt (c + 2 ^ width - (last % 2 ^ width + 1)) (pow-pos width)
+
+pub before-on-wheel : (width c : ℕ) → count-before width c < 2 ^ width
+before-on-wheel width c = missing-lt width 0 c
 
 pub follows-before : (width c : ℕ) → c < 2 ^ width → missing width (count-before width c) c ≡ 0
 unfolding next-count
@@ -83,7 +89,7 @@ pub count-lt : (l : Link) (word : ℕ) → count-in (l .edition) word < 2 ^ coun
 unfolding count-width
 count-lt l word = count-in-lt (l .edition) word
 
--- a wheel goes round within a word of 32 bits, and has more than one place
+-- a wheel goes round within a word of 32 bits, has more than one place, and 0 is on it
 pub count-narrow : (l : Link) → count-width l < 32
 unfolding count-width
 count-narrow l = omega (arith, cycle-narrow (l .edition))
@@ -94,6 +100,9 @@ wheel-in-word l = pow-lt (count-narrow l)
 pub count-wide : (l : Link) → 1 ≤ count-width l
 unfolding count-width
 count-wide l = omega arith
+
+pub starts-on-wheel : (l : Link) → ltb 0 (2 ^ count-width l) ≡ true
+starts-on-wheel l = lt-ltb 0 (2 ^ count-width l) (pow-pos (count-width l))
 
 -- a sum that wraps at a word's width wraps at the wheel's
 pub next-wraps : (bits width c : ℕ) → width ≤ bits → (c + 1) % 2 ^ bits % 2 ^ width ≡ next-count width c

@@ -1,15 +1,17 @@
--- What is shown of the editions of the header: both headers octet by octet, and that 732.0-B-3 with usage 0 has the very octets of 701.0-B-2.
+-- What is shown of the editions of the header: both headers octet by octet, that every frame with them is taken, how wide the wheel is, and that 732.0-B-3
+-- with usage 0 has the very octets of 701.0-B-2.
 use Prim.Native.Nat.{ℕ, _+_, _*_, _/_, _%_, _^_, _<_}
 use mathlib.Core.Path.{_≡_}
-use mathlib.Core.List.{List, [], _∷_}
-use mathlib.Core.Bool.{true}
-use Rattle.octets.specs.Basics.{Row}
+use mathlib.Core.List.{List, [], _∷_, _++_}
+use mathlib.Core.Bool.{true, false}
+use lib.ListN.{length}
+use Rattle.trailer.specs.Trailer.{sent}
 use Rattle.frames.specs.Edition.{usage}
-use Rattle.frames.specs.Link.{link-in-range, count-width, headers}
-use Rattle.frames.specs.Frame.{heading, head, head-rows}
-use Rattle.frames.specs.BitFrame.{bit-heading, bit-head, bit-head-rows}
+use Rattle.frames.specs.Link.{link-in-range, count-width, headers, next-count, missing}
+use Rattle.frames.specs.Frame.{in-range, unused, heading, pointer-word, head, head-rows}
+use Rattle.frames.specs.BitFrame.{bits-in-range, bit-unused, bit-heading, bit-pointer-word, bit-head, bit-head-rows}
 use Rattle.frames.specs.declared.Edition.{Edition}
-use Rattle.frames.specs.declared.Edition.the-variants.{Former, CycleUnused}
+use Rattle.frames.specs.declared.Edition.the-variants.{Former, CycleUnused, CycleUsed}
 use Rattle.frames.specs.declared.Link.{Link}
 use Rattle.frames.specs.declared.Settings.{Settings}
 use Rattle.frames.specs.declared.bits.BitSettings.{BitSettings}
@@ -33,6 +35,26 @@ pub record AsOctets : Type 0 where
       ∷ (c / 65536 % 256) ∷ (c / 256 % 256) ∷ (c % 256) ∷ (r * 128 + usage (l .edition) * 64 + c / 16777216)
       ∷ (z / 256) ∷ (z % 256) ∷ []
 
+-- A frame with these headers and a zone, sent with its trailer where the channel has one, is taken, and read as what it was made of; also with the replay
+-- flag. `HeadersRead.again` is the other way round: a frame that is not refused is one of these.
+pub record Taken : Type 0 where
+  pub packets : (s : Settings) (c r p : ℕ) (zone : List ℕ) → in-range s ≡ true → c < 2 ^ count-width (s .link) → r < 2 → p < 2 ^ 11 → unused s p ≡ false
+      → length zone ≡ s .zone
+      → heading s (sent (s .link .trailed) (headers (s .link) c r (pointer-word p) ++ zone)) ≡ record { refusal = 0; count = c; replay = r; pointer = p }
+  pub bits : (s : BitSettings) (c r p : ℕ) (zone : List ℕ) → bits-in-range s ≡ true → c < 2 ^ count-width (s .link) → r < 2 → p < 2 ^ 14
+      → bit-unused s p ≡ false → length zone ≡ s .width
+      → bit-heading s (sent (s .link .trailed) (headers (s .link) c r (bit-pointer-word p) ++ zone)) ≡ record { refusal = 0; count = c; replay = r; pointer = p }
+
+-- The wheel has 2^24 counts, and 2^28 with usage 1. On a wheel of any width, as many frames are missing before c as the count has to go on from the one after
+-- `last`, and fewer than there are counts.
+pub record Wheels : Type 0 where
+  pub former : (l : Link) → count-width (link-by Former l) ≡ 24
+  pub unused : (l : Link) → count-width (link-by CycleUnused l) ≡ 24
+  pub used : (l : Link) → count-width (link-by CycleUsed l) ≡ 28
+  pub next : (width c : ℕ) → next-count width c ≡ (c + 1) % 2 ^ width
+  pub missing-before : (width last c : ℕ) → (missing width last c + (last + 1)) % 2 ^ width ≡ c % 2 ^ width
+  pub fewer : (width last c : ℕ) → missing width last c < 2 ^ width
+
 -- Every header is read, refused and written alike, and the wheel is the same.
 pub record SameOctets : Type 0 where
   pub wheel : (l : Link) → count-width (link-by CycleUnused l) ≡ count-width (link-by Former l)
@@ -46,4 +68,6 @@ pub record SameOctets : Type 0 where
 
 pub record Editions : Type 0 where
   pub as-octets : AsOctets
+  pub taken : Taken
+  pub wheels : Wheels
   pub same-octets : SameOctets

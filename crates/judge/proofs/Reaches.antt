@@ -11,8 +11,7 @@ use native.Mathlib.Omega.{arith}
 use lib.ListN.{length, take, drop, replicate, length-append, length-drop, length-replicate}
 use lib.Seq.{length-take-le, take-add, drop-drop}
 use lib.Dec.{leb, eqb}
-use lib.Pow.{pow-pos}
-use borrow.Author.Tests.{leb-true, leb-false, le-leb, lt-ltb, ltb-true, eqb-true, eqb-false, ne-eqb}
+use borrow.Author.Tests.{leb-true, leb-false, le-leb, ltb-true, eqb-true, eqb-false, ne-eqb}
 use Rattle.octets.specs.Basics.{AllOctets, first}
 use Rattle.words.specs.Fields.{field}
 use Rattle.octets.proofs.Choices.{and-true}
@@ -25,7 +24,7 @@ use Rattle.frames.specs.declared.Settings.{Settings}
 use Rattle.frames.proofs.Accepted.{length-zone}
 use Rattle.frames.proofs.Framed.{framed, framed-is, pointer-inside, pointer-beyond}
 use Rattle.frames.proofs.Settled.{settled}
-use Rattle.frames.proofs.Wheel.{count-before, follows-before}
+use Rattle.frames.proofs.Wheel.{count-before, follows-before, starts-on-wheel}
 use Rattle.extractor.specs.Extract.{State, in-step, any-torn, agreed, reason-by, reason-in, lost-since}
 use Rattle.extractor.specs.Records.{unfinished, holds-well, on-wheel, reachable, is-entered, stands-for, set-off, set-out, enter, steps-to, handed-over, step-look, step, step-call, shown}
 use Rattle.extractor.specs.Calls.{event-at, Finds, steps, through}
@@ -239,7 +238,7 @@ module _ (s : Settings) (store : List ℕ) (ok : in-range s ≡ true) (room : s 
   led-fault zero few = led-by Open [] tt few (tried-empty 0 opened) begins
   led-fault (suc n) few =
       led-by (Sound (suc n) 0 0) [] tt few (tried-empty (suc n) (stands-for store (InStep 0 0)))
-      (led-sound (suc n) (omega arith) (omega arith) 0 0 (lt-ltb 0 (2 ^ count-width (s .link)) (pow-pos (count-width (s .link)))) (omega arith) (omega arith) refl)
+      (led-sound (suc n) (omega arith) (omega arith) 0 0 (starts-on-wheel (s .link)) (omega arith) (omega arith) refl)
 
   led-faulty : (n at : ℕ) → at < n → n ≤ most-frames → Led (Faulty n at)
   unfolding judge-frame

@@ -1,6 +1,5 @@
 -- `frames::next_count` meets its contract: what wraps at the word's width wraps at the wheel's.
 -- Assumes nothing.
-use mathlib.Core.Path.{_∙_}
 use native.Mathlib.Omega.{arith}
 use lib.Pow.{pow-pos}
 use borrow.Author.Needs.{needs}

@@ -5,7 +5,6 @@ use Prim.Native.Nat.{ℕ}
 use native.Mathlib.Omega.{arith}
 use borrow.Author.Needs.{needs}
 use Rattle.frames.specs.Edition.{usage, used-as}
-use Rattle.frames.specs.declared.Edition.{Edition}
 use Rattle.frames.proofs.Signals.{usage-small, unused-as, used-flags, signals-used}
 use Rattle.frames.proofs.signal.is_right.Statement.{statement}
 use Rattle.frames.proofs.signal.is_right.Tie as tie
