@@ -14,6 +14,7 @@ use Rattle.extractor.proofs.Theorems.{says-the-rules, spends-in-time}
 use Rattle.runfile.proofs.Theorems.{reads-run-files}
 use Rattle.demands.specs.Demand2.{Demand2}
 use Rattle.carries.proofs.CarefulRuns.{run-delivers, list-carried}
+use Rattle.demands.proofs.Counts.{counts-told}
 use Rattle.demands.proofs.RoundTrips.{orders-handed-over, list-handed-over}
 use Rattle.demands.proofs.SpaceAndPackets.{same-header}
 use Rattle.demands.proofs.Damage.{damages}
@@ -23,6 +24,7 @@ demand-2 = record {
   fields = record { read = placed-read; below = placed-below; above = placed-above };
   headers-read = headers-read;
   editions = editions;
+  counts = counts-told;
   trailers = record { as-printed = as-printed; syndrome = syndrome; worth = worth; sharp = sharp };
   packets-read = record { wrapped = round-trip; space = space-written-read; space-again = space-read-written; space-same = same-header; damages = damages };
   bits-read = record { written-read = read-back; read-has = λ s x f o done. has-bits s x f o done; losses = losses-wait };

@@ -12,4 +12,5 @@ pub mod RoundTrips
 pub mod SpaceAndPackets
 pub mod AsWritten
 pub mod Damage
+pub mod Counts
 pub mod calls

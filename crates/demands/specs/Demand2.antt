@@ -27,6 +27,7 @@ use Rattle.carries.specs.Demand2List.{OrdersCarried, ListCarried}
 use Rattle.demands.specs.RoundTrip.{OrdersHandedOver, ListHandedOver}
 use Rattle.demands.specs.SpaceAndPackets.{SameHeader}
 use Rattle.demands.specs.Damage.{Damages}
+use Rattle.demands.specs.Counts.{CountsTold}
 
 -- fields, once for any place and width of a word: what is put in is read back there, and every field below or above it stays
 pub record Fields : Type 0 where
@@ -71,6 +72,7 @@ pub record Demand2 : Type 0 where
   pub fields : Fields
   pub headers-read : HeadersRead
   pub editions : Editions
+  pub counts : CountsTold
   pub trailers : Trailers
   pub packets-read : Packets
   pub bits-read : Bits

@@ -7,5 +7,6 @@ pub mod Promises
 pub mod RoundTrip
 pub mod SpaceAndPackets
 pub mod Damage
+pub mod Counts
 pub mod Table
 pub mod calls

@@ -1,5 +1,5 @@
 -- What is wrong with a packet's header by examples: each of the four in each octet where it is seen, and each answer that carries it.
-use Prim.Native.Nat.{ℕ, zero, suc, _-_}
+use Prim.Native.Nat.{ℕ, _-_}
 use mathlib.Core.Path.{_≡_}
 use mathlib.Core.List.{List, [], _∷_, _++_, map}
 use mathlib.Core.Bool.{Bool, true, false}

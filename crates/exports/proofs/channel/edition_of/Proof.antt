@@ -1,7 +1,6 @@
 -- `exports::channel::edition_of` meets its contract: its tests are the definition's.
 -- Assumes nothing.
 use mathlib.Core.Path.{refl}
-use borrow.Author.Needs.{needs}
 use borrow.Author.Tests.{eq-eqb, ne-eqb}
 use Rattle.exports.specs.Channel.{edition-of}
 use Rattle.exports.proofs.channel.edition_of.Statement.{statement}
