@@ -77,7 +77,7 @@ module _ (s : BitSettings) (range : bits-in-range s ≡ true) (c n : ℕ) (bits 
   short : pointer-for s n < 2 ^ 14
   short = pointer-lt s n inside (settled .width-most)
 
-  back : HeadersBack (s .link) bit-spare-place bit-pointer-place c (pointer-for s n) f
+  back : HeadersBack (s .link) bit-spare-place bit-pointer-place c 0 (pointer-for s n) f
   back = bit-head-back s c (pointer-for s n) f range wheel short headed
 
   taken : first (bit-frame-rows s f) ≡ 0

@@ -7,9 +7,11 @@ use Prim.Native.Nat.{ℕ, _+_, _*_, _/_, _%_, _^_, _≤_, _<_}
 use native.Mathlib.Nat.{add-comm, mod-lt, mod-eq-of-lt, lt-of-lt-of-le, div-add-mod'}
 use native.Mathlib.Omega.{arith}
 use lib.Arith.{lt-one}
+use lib.Dec.{eqb}
 use lib.Pow.{pow-mono, shr-lt, shr-shr, mod-pow-add}
+use borrow.Author.Tests.{eqb-true, eqb-false}
 use Rattle.octets.specs.Basics.{number, number-from, octets}
-use Rattle.octets.proofs.Choices.{split}
+use Rattle.octets.proofs.Tests.{test}
 use Rattle.octets.proofs.Numbers.{octets-again}
 use Rattle.words.specs.Fields.{field, read}
 use Rattle.words.proofs.Fields.{field-rest}
@@ -21,7 +23,7 @@ use Rattle.frames.specs.Editions.{link-by, AsOctets, Wheels, SameOctets,
 use Rattle.frames.specs.declared.Edition.the-variants.{CycleUnused}
 use Rattle.frames.specs.declared.Link.{Link}
 use Rattle.frames.proofs.Settled.{linked}
-use Rattle.frames.proofs.Signals.{two-fields, same-signals, usage-small, cycle-narrow}
+use Rattle.frames.proofs.Signals.{two-fields, same-signals, usage-small, cycle-narrow, unused-narrow, used-wide}
 use Rattle.frames.proofs.Taken.{taken}
 use Rattle.frames.proofs.Wheel.{after-missing, missing-lt}
 use Rattle.frames.proofs.ReadBack.{version-written, spacecraft-written, channel-written, own-written, replay-written, signal-fields, cycle-written, head-word-lt}
@@ -52,20 +54,13 @@ module _ (l : Link) (c r z : ℕ) (range : link-in-range l ≡ true) (fits : c <
 
   -- the cycle's four bits are that, with either usage
   cycle : read cycle-place word ≡ top
-  unfolding cycle-width
   cycle =
-      split (usage (l .edition)) 0
-      (λ h. signal-fields l c r .cycle-clear (unset h) ∙ sym (none h))
-      (λ h. subst (λ (k : ℕ). field word 0 k ≡ top % 2 ^ k) (set h) (cycle-written l c r) ∙ mod-eq-of-lt top-small)
-    where
-      unset : usage (l .edition) ≤ 0 → usage (l .edition) ≡ 0
-      unset h = omega arith
-
-      none : usage (l .edition) ≤ 0 → top ≡ 0
-      none h = lt-one (subst (λ (u : ℕ). top < 2 ^ (u * 4)) (unset h) top-lt)
-
-      set : 0 < usage (l .edition) → usage (l .edition) * 4 ≡ 4
-      set h = omega (arith, usage-small (l .edition))
+      let e = l .edition in
+      test (eqb (usage e) 0)
+      (λ t.
+      let none : usage e ≡ 0 = eqb-true (usage e) 0 t in
+      signal-fields l c r .cycle-clear none ∙ sym (lt-one (subst (λ (k : ℕ). top < 2 ^ k) (unused-narrow e none) top-lt)))
+      (λ t. subst (λ (k : ℕ). field word 0 k ≡ top % 2 ^ k) (used-wide e (eqb-false (usage e) 0 t)) (cycle-written l c r) ∙ mod-eq-of-lt top-small)
 
   abbrev six : List ℕ
   six = (64 + l .spacecraft / 4) ∷ (l .spacecraft % 4 * 64 + l .channel) ∷ (c / 65536 % 256) ∷ (c / 256 % 256) ∷ (c % 256) ∷ (r * 128 + usage (l .edition) * 64 + top) ∷ []

@@ -51,7 +51,7 @@ module _ (s : Settings) (c p : ℕ) (z : List ℕ) (ok : in-range s ≡ true) (w
       sent-front (s .link .trailed) (head s c p ++ z) 8 (omega (arith, length-append (head s c p) z, length-head s c p))
       ∙ take-at (head s c p) z 8 (length-head s c p)
 
-  back : HeadersBack (s .link) zone-spare-place pointer-place c p (framed s c p z)
+  back : HeadersBack (s .link) zone-spare-place pointer-place c 0 p (framed s c p z)
   back = head-back s c p (framed s c p z) ok wheel short headed
 
   long : length (framed s c p z) ≡ frame-length s

@@ -152,26 +152,26 @@ module _ (l : Link) (c r z : ℕ) (f : List ℕ) (headed : take 8 f ≡ headers 
       ∙ number-octets 2 z h
 
 -- headers that were written are read back; for any width of the pointer
-pub headers-back : (l : Link) (width c p : ℕ) (f : List ℕ) → Linked l → width ≤ 16 → c < 2 ^ count-width l → p < 2 ^ width
-    → take 8 f ≡ headers l c 0 (placed 0 0 width p)
-    → HeadersBack l (record { below = width; width = 16 - width }) (record { below = 0; width = width }) c p f
-headers-back l width c p f bounds narrow wheel short headed =
-    let word : primary l f ≡ head-word l c 0 = primary-written l c 0 (placed 0 0 width p) f headed in
+pub headers-back : (l : Link) (width c r p : ℕ) (f : List ℕ) → Linked l → width ≤ 16 → c < 2 ^ count-width l → r < 2 → p < 2 ^ width
+    → take 8 f ≡ headers l c r (placed 0 0 width p)
+    → HeadersBack l (record { below = width; width = 16 - width }) (record { below = 0; width = width }) c r p f
+headers-back l width c r p f bounds narrow wheel flag short headed =
+    let word : primary l f ≡ head-word l c r = primary-written l c r (placed 0 0 width p) f headed in
     let zone : zone-head l f ≡ placed 0 0 width p =
-    zone-head-written l c 0 (placed 0 0 width p) f headed (foot-lt width p (omega arith) 16 narrow) in
+    zone-head-written l c r (placed 0 0 width p) f headed (foot-lt width p (omega arith) 16 narrow) in
     record {
-      version-back = ap (read version-place) word ∙ version-written l c 0;
-      spacecraft-back = ap (read spacecraft-place) word ∙ spacecraft-written l c 0 (bounds .spacecraft-most);
-      channel-back = ap (read channel-place) word ∙ channel-written l c 0 (bounds .channel-most);
-      count-back = ap (count-in (l .edition)) word ∙ count-written l c 0 wheel;
-      replay-back = ap (read replay-place) word ∙ replay-written l c 0 (omega arith);
-      signal-back = ap (signals (l .edition)) word ∙ signal-written l c 0;
+      version-back = ap (read version-place) word ∙ version-written l c r;
+      spacecraft-back = ap (read spacecraft-place) word ∙ spacecraft-written l c r (bounds .spacecraft-most);
+      channel-back = ap (read channel-place) word ∙ channel-written l c r (bounds .channel-most);
+      count-back = ap (count-in (l .edition)) word ∙ count-written l c r wheel;
+      replay-back = ap (read replay-place) word ∙ replay-written l c r flag;
+      signal-back = ap (signals (l .edition)) word ∙ signal-written l c r;
       zone-spare-back = ap (λ (z : ℕ). field z width (16 - width)) zone ∙ foot-above width p (omega arith) width (16 - width) (omega arith);
       pointer-back = ap (λ (z : ℕ). field z 0 width) zone ∙ foot-read width p (omega arith) short;
     }
 
 -- so no row refuses them, where the pointer is one that is used
-pub back-sound : {l : Link} {spare-at pointer-at : Place} {c p : ℕ} {f : List ℕ} (unused : ℕ → Bool) → HeadersBack l spare-at pointer-at c p f
+pub back-sound : {l : Link} {spare-at pointer-at : Place} {c r p : ℕ} {f : List ℕ} (unused : ℕ → Bool) → HeadersBack l spare-at pointer-at c r p f
     → unused p ≡ false → SoundHeader l (primary l f) (read spare-at (zone-head l f)) (unused (read pointer-at (zone-head l f)))
 back-sound unused h used = record {
   version-right = h .version-back;
@@ -237,7 +237,7 @@ headers-again l f width spare unused bounds o room narrow h clear =
 -- ---- frames of a shape
 
 -- a frame of the right length and with the right trailer whose headers are read back is not refused, where its pointer is one that is used
-pub shape-taken : (h : Shape) {c p : ℕ} {f : List ℕ} → HeadersBack (h .link) (spare-above (h .width)) (pointer-at (h .width)) c p f
+pub shape-taken : (h : Shape) {c r p : ℕ} {f : List ℕ} → HeadersBack (h .link) (spare-above (h .width)) (pointer-at (h .width)) c r p f
     → length f ≡ shape-length h → wrong (h .link .trailed) f ≡ false → shape-unused h p ≡ false → first (shape-rows h f) ≡ 0
 unfolding first
 shape-taken h back long right used = rw (eq-eqb _ _ long, right) (header-taken (h .link) _ _ _ (back-sound (shape-unused h) back used))
@@ -267,9 +267,9 @@ unfolding head
 length-head s c p = length-headers (s .link) c 0 (pointer-word p)
 
 pub head-back : (s : Settings) (c p : ℕ) (f : List ℕ) → in-range s ≡ true → c < 2 ^ count-width (s .link) → p < 2 ^ 11
-    → take 8 f ≡ head s c p → HeadersBack (s .link) zone-spare-place pointer-place c p f
+    → take 8 f ≡ head s c p → HeadersBack (s .link) zone-spare-place pointer-place c 0 p f
 unfolding head
-head-back s c p f ok = headers-back (s .link) 11 c p f (settled s ok .on-link) (omega arith)
+head-back s c p f ok fits = headers-back (s .link) 11 c 0 p f (settled s ok .on-link) (omega arith) fits (omega arith)
 
 pub frame-again : (s : Settings) (f : List ℕ) → in-range s ≡ true → AllOctets f → first (frame-rows s f) ≡ 0
     → f ≡ sent (s .link .trailed) (headers (s .link) (count s f) (replay s f) (pointer-word (pointer s f)) ++ zone-of s f)

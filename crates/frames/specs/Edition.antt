@@ -39,7 +39,7 @@ is-former Former = true
 is-former CycleUnused = false
 is-former CycleUsed = false
 
--- the usage flag of a channel's frames
+-- the usage flag of a channel's frames; in 701.0-B-2 it is a spare bit, and 0
 unfoldable pub usage : Edition → ℕ
 usage Former = 0
 usage CycleUnused = 0
@@ -49,7 +49,7 @@ usage CycleUsed = 1
 unfoldable pub cycle-width : Edition → ℕ
 cycle-width e = usage e * 4
 
--- where these bits stand
+-- where these bits stand, at the octet's foot
 abbrev pub cycle-at : Edition → Place
 cycle-at e = record { below = 0; width = cycle-width e }
 

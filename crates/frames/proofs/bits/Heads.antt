@@ -28,12 +28,12 @@ length-bit-head s c p = length-headers (s .link) c 0 (bit-pointer-word p)
 
 -- a frame that begins with its written head is read back
 pub bit-head-back : (s : BitSettings) (c p : ℕ) (f : List ℕ) → bits-in-range s ≡ true → c < 2 ^ count-width (s .link) → p < 2 ^ 14
-    → take 8 f ≡ bit-head s c p → HeadersBack (s .link) bit-spare-place bit-pointer-place c p f
+    → take 8 f ≡ bit-head s c p → HeadersBack (s .link) bit-spare-place bit-pointer-place c 0 p f
 unfolding bit-head
-bit-head-back s c p f ok = headers-back (s .link) 14 c p f (bits-settled s ok .on-link) (omega arith)
+bit-head-back s c p f ok fits = headers-back (s .link) 14 c 0 p f (bits-settled s ok .on-link) (omega arith) fits (omega arith)
 
 -- and it is not refused, where its length and its trailer are right and its pointer one that is used
-pub bit-frame-taken : (s : BitSettings) {c p : ℕ} {f : List ℕ} → HeadersBack (s .link) bit-spare-place bit-pointer-place c p f
+pub bit-frame-taken : (s : BitSettings) {c r p : ℕ} {f : List ℕ} → HeadersBack (s .link) bit-spare-place bit-pointer-place c r p f
     → length f ≡ bit-frame-length s → wrong (s .link .trailed) f ≡ false → bit-unused s p ≡ false → first (bit-frame-rows s f) ≡ 0
 unfolding bit-frame-rows bit-frame-length bit-unused
 bit-frame-taken s = shape-taken (bits-shape s)
