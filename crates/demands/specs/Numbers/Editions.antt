@@ -91,7 +91,7 @@ pub record Layouts : Type 0 where
 
 -- ---- refusals
 
--- a header in which less and less is wrong, at each edition: version 11; another spacecraft; each edition's wrong bits with pointer 15
+-- a signalling octet that is refused at this edition, and one that is not
 abbrev pub wrong-bits : Edition → ℕ
 wrong-bits Former = 0x40
 wrong-bits CycleUnused = 0x01
@@ -102,6 +102,7 @@ right-bits Former = 0x00
 right-bits CycleUnused = 0x00
 right-bits CycleUsed = 0x4F
 
+-- headers in which less and less is wrong: version 11; another spacecraft; the signalling octet; pointer 15, which neither Z = 10 nor W = 2 has a use for
 abbrev pub wrong-headers : Edition → List (List ℕ)
 wrong-headers e =
     (0xD0 ∷ 0xC3 ∷ 0 ∷ 0 ∷ 0 ∷ wrong-bits e ∷ 0 ∷ 15 ∷ [])
