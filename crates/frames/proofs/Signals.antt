@@ -5,7 +5,7 @@ use mathlib.Core.Bool.{Bool, true, false}
 use Prim.Native.Nat.{ℕ, _+_, _*_, _/_, _%_, _^_, _≤_, _<_}
 use native.Mathlib.Nat.{add-comm, mod-eq-of-lt, mod-one}
 use native.Mathlib.Omega.{arith}
-use lib.Arith.{digits-lt, lt-one}
+use lib.Arith.{digits-lt}
 use lib.Dec.{lit<, eqb}
 use lib.Pow.{pow-add, shr-shr, mod-pow-add, recompose, high, low}
 use borrow.Author.Tests.{eq-eqb, ne-eqb, eqb-true, eqb-false}
@@ -89,17 +89,6 @@ unfolding cycle-width
 used-wide e h = omega (arith, usage-small e)
 
 -- ---- the count that is read
-
--- with usage 0 it is its own octets', and with usage 1 the cycle stands above them
-pub unused-count : (e : Edition) (head : ℕ) → usage e ≡ 0 → count-in e head ≡ read count-place head
-unfolding count-in
-unused-count e head h =
-    let none : field head 0 (cycle-width e) ≡ 0 = lt-one (subst (λ (k : ℕ). field head 0 (cycle-width e) < 2 ^ k) (unused-narrow e h) (field-lt head 0 (cycle-width e))) in
-    omega arith
-
-pub used-count : (e : Edition) (head : ℕ) → (usage e ≡ 0 → ⊥) → count-in e head ≡ read cycle-place head * 2 ^ own-width + read count-place head
-unfolding count-in
-used-count e head h = rw (used-wide e h) refl
 
 -- it has its own bits, and the cycle's above them
 pub count-in-lt : (e : Edition) (head : ℕ) → count-in e head < 2 ^ (own-width + cycle-width e)
@@ -186,26 +175,6 @@ module _ (e : Edition) (c r : ℕ) where
   pub cycle-in : read (cycle-at e) (signalling e c r) ≡ c / 2 ^ own-width % 2 ^ cycle-width e
   unfolding signalling
   cycle-in = placed-read used 0 (cycle-width e) (c / 2 ^ own-width) used-lt (omega (arith, cycle-narrow e))
-
-  -- with usage 0 it is the replay flag alone
-  pub unused-signalling : usage e ≡ 0 → signalling e c r ≡ replayed
-  unfolding field
-  unused-signalling h =
-      let s : ℕ = signalling e c r in
-      let small : replayed < 2 ^ 8 = placed-within 0 7 1 r (lit< tt) (omega arith) 8 (lit< tt) (omega arith) in
-      let none : s % 2 ^ 0 ≡ replayed % 2 ^ 0 = mod-one s ∙ sym (mod-one replayed) in
-      let cycle : s % 2 ^ 4 ≡ replayed % 2 ^ 4 = agree-on s replayed 0 4 none (no-cycle-in h ∙ sym (placed-below 0 7 1 r (lit< tt) (omega arith) 0 4 (omega arith))) in
-      let spares : s % 2 ^ 6 ≡ replayed % 2 ^ 6 = agree-on s replayed 4 2 cycle (spare-in ∙ sym (placed-below 0 7 1 r (lit< tt) (omega arith) 4 2 (omega arith))) in
-      let flags : s % 2 ^ 7 ≡ replayed % 2 ^ 7 = agree-on s replayed 6 1 spares (usage-in ∙ h ∙ sym (placed-below 0 7 1 r (lit< tt) (omega arith) 6 1 (omega arith))) in
-      let all : s % 2 ^ 8 ≡ replayed % 2 ^ 8 = agree-on s replayed 7 1 flags (replay-in ∙ sym (placed-read 0 7 1 r (lit< tt) (omega arith))) in
-      sym (mod-eq-of-lt signalling-within) ∙ all ∙ mod-eq-of-lt small
-
-  -- and with usage 1 it has the usage flag and the cycle
-  pub used-signalling : (usage e ≡ 0 → ⊥) → signalling e c r ≡ write cycle-place (c / 2 ^ own-width) (write usage-place 1 replayed)
-  unfolding signalling
-  used-signalling h =
-      let one : usage e ≡ 1 = omega (arith, usage-small e) in
-      rw (used-wide e h, one) refl
 
 -- ---- a header's bits, one by one
 

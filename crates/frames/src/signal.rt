@@ -1,7 +1,7 @@
 // The signalling octet and the count of a frame's header, by the edition that the link follows.
 ghost use mathlib.Core.Path.{_≡_};
 ghost use Rattle.frames.specs.Link.{count-width};
-ghost use Rattle.frames.specs.Edition.{usage, cycle-width, count-in, signals, signalling};
+ghost use Rattle.frames.specs.Edition.{usage, cycle-width, cycle-at, count-in, signals, signalling};
 use super::Edition;
 use super::Link;
 use words::Place;
@@ -27,11 +27,6 @@ const FLAGS: Place = Place { below: 4, width: 3 };
 const USED: u64 = 4;
 
 const CYCLE_WIDTH: u32 = 4;
-
-const CYCLE: Place = Place {
-    below: 0,
-    width: CYCLE_WIDTH,
-};
 
 // The usage flag of a link's frames.
 fn usage(l: Link) -> u32
@@ -59,6 +54,16 @@ pub(crate) fn count_width(l: Link) -> u32
     OWN_WIDTH + cycle_width(l)
 }
 
+// Where the count's bits stand that its own octets have no room for.
+fn cycle_at(l: Link) -> Place
+    ensures { λ r. ⌜ r ≡ cycle-at (l .edition) ⌝ }
+{
+    Place {
+        below: 0,
+        width: cycle_width(l),
+    }
+}
+
 // Whether the bits below the replay flag are as the edition has them: with usage 0 none is 1, whatever the edition calls them.
 pub(crate) fn is_right(l: Link, head: u64) -> bool
     ensures { λ r. ⌜ r ≡ signals (l .edition) head ⌝ }
@@ -73,11 +78,8 @@ pub(crate) fn is_right(l: Link, head: u64) -> bool
 pub(crate) fn count_in(l: Link, head: u64) -> u32
     ensures { λ r. ⌜ r ≡ count-in (l .edition) head ⌝ }
 {
+    let cycle = words::field(head, cycle_at(l)) as u32;
     let own = words::field(head, COUNT) as u32;
-    if usage(l) == 0 {
-        return own;
-    }
-    let cycle = words::field(head, CYCLE) as u32;
     (cycle << OWN_WIDTH) + own
 }
 
@@ -86,9 +88,6 @@ pub(crate) fn written(l: Link, count: u32, replay: u8) -> u64
     ensures { λ r. ⌜ r ≡ signalling (l .edition) count replay ⌝ }
 {
     let replayed = words::placed(0, REPLAY, replay as u64);
-    if usage(l) == 0 {
-        return replayed;
-    }
-    let used = words::placed(replayed, USAGE, 1);
-    words::placed(used, CYCLE, count as u64 >> OWN_WIDTH)
+    let used = words::placed(replayed, USAGE, usage(l) as u64);
+    words::placed(used, cycle_at(l), count as u64 >> OWN_WIDTH)
 }
