@@ -24,6 +24,7 @@ use Rattle.frames.specs.declared.Edition.the-variants.{CycleUnused}
 use Rattle.frames.specs.declared.Link.{Link}
 use Rattle.frames.proofs.Settled.{linked}
 use Rattle.frames.proofs.Signals.{two-fields, same-signals, usage-small, cycle-narrow, unused-narrow, used-wide}
+use Rattle.frames.proofs.ByOctets.{refused-by, on-wheel}
 use Rattle.frames.proofs.Taken.{taken}
 use Rattle.frames.proofs.Wheel.{after-missing, missing-lt}
 use Rattle.frames.proofs.ReadBack.{version-written, spacecraft-written, channel-written, own-written, replay-written, signal-fields, cycle-written, head-word-lt}
@@ -146,4 +147,4 @@ wheels = record {
 }
 
 pub editions : Editions
-editions = record { as-octets = as-octets; taken = taken; wheels = wheels; same-octets = same-octets }
+editions = record { as-octets = as-octets; taken = taken; refused-by = refused-by; on-wheel = on-wheel; wheels = wheels; same-octets = same-octets }

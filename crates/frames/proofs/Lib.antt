@@ -1,4 +1,5 @@
 pub mod Accepted
+mod ByOctets
 pub mod Editions
 pub mod Framed
 pub mod Headings

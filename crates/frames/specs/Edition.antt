@@ -47,11 +47,11 @@ usage CycleUsed = 1
 
 -- how many bits the cycle adds to the count: its four with usage 1, and none with usage 0
 unfoldable pub cycle-width : Edition → ℕ
-cycle-width e = usage e * 4
+cycle-width e = usage e * cycle-place .width
 
 -- where these bits stand, at the octet's foot
 abbrev pub cycle-at : Edition → Place
-cycle-at e = record { below = 0; width = cycle-width e }
+cycle-at e = record { below = cycle-place .below; width = cycle-width e }
 
 -- the count of a frame, by the number of its header: the cycle stands above the count's own octets
 unfoldable pub count-in : Edition → ℕ → ℕ
