@@ -31,4 +31,4 @@ spoilt-passes CycleUsed = refl
 
 pub trailed-passes : TrailedPasses
 unfolding bits all-bits moved step divided remainder right number-at extra wrong number-from number octets field part first look space encapsulation counted sized header-length is-idle primary zone-head usage cycle-width count-in used-as signals header-rows count-width missing frame-length unused frame-rows zone-of told take-in step-of reason-of damage-of lost-since reason-in reason-by agreed agreed-look walked walk walk-turns walk-look
-trailed-passes = refl
+trailed-passes = record { former = refl; unused = refl; used = refl }

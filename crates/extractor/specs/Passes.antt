@@ -179,8 +179,8 @@ SpoiltPasses = (e : Edition) → given (sample e) (spoilt e (wrong-signals e)) �
 
 -- ---- the same channel with trailers
 
-abbrev pub trailed-sample : Settings
-trailed-sample = record { link = record { spacecraft = 66; channel = 3; trailed = true; edition = Former }; zone = 10; limit = 1024; fill = 0x55 }
+abbrev pub trailed-sample : Edition → Settings
+trailed-sample e = record { link = record { spacecraft = 66; channel = 3; trailed = true; edition = e }; zone = 10; limit = 1024; fill = 0x55 }
 
 -- the two sample frames with their trailers
 abbrev pub trailed-first : List ℕ
@@ -202,5 +202,25 @@ trailed-passes =
     ∷ pass (trailed-first ∷ (second-frame Former 1 3 ++ (0x43 ∷ 0x62 ∷ [])) ∷ trailed-second ∷ []) (first-line ∷ refused-by 13 ∷ second-line ∷ [])
     ∷ []
 
-abbrev pub TrailedPasses : Type 0
-TrailedPasses = given trailed-sample trailed-passes ≡ right trailed-passes
+-- the two frames with usage 1 and their trailers
+abbrev pub used-first : List ℕ
+used-first = first-frame CycleUsed ++ (0x77 ∷ 0xA5 ∷ [])
+
+abbrev pub used-second : List ℕ
+used-second = second-frame CycleUsed 1 3 ++ (0x19 ∷ 0xB3 ∷ [])
+
+-- The run with usage 1. Behind its first frame the second with the trailer of usage 0; with usage 0, and with a spare bit, under their own trailers; and with cycle 1.
+abbrev pub trailed-cycle-passes : List Pass
+trailed-cycle-passes =
+    pass (used-first ∷ used-second ∷ []) (first-line ∷ second-line ∷ [])
+    ∷ pass (used-first ∷ (second-frame CycleUsed 1 3 ++ (0x43 ∷ 0x63 ∷ [])) ∷ []) (first-line ∷ refused-by 13 ∷ [])
+    ∷ pass (used-first ∷ trailed-second ∷ used-second ∷ []) (first-line ∷ refused-by 6 ∷ second-line ∷ [])
+    ∷ pass (used-first ∷ (with-signal 1 0x60 3 second-zone ++ (0x34 ∷ 0xDB ∷ [])) ∷ used-second ∷ []) (first-line ∷ refused-by 6 ∷ second-line ∷ [])
+    ∷ pass (used-first ∷ (with-signal 1 0x41 3 second-zone ++ (0x5C ∷ 0xD0 ∷ [])) ∷ []) (first-line ∷ entered 16777217 16777216 2 1 (idle-seven ∷ []) ∷ [])
+    ∷ []
+
+-- with usage 0 the runs are those of 701.0-B-2
+pub record TrailedPasses : Type 0 where
+  pub former : given (trailed-sample Former) trailed-passes ≡ right trailed-passes
+  pub unused : given (trailed-sample CycleUnused) trailed-passes ≡ right trailed-passes
+  pub used : given (trailed-sample CycleUsed) trailed-cycle-passes ≡ right trailed-cycle-passes
