@@ -6,6 +6,7 @@ use mathlib.Core.Option.{some}
 use mathlib.Core.Bool.{Bool, true}
 use Prim.Native.Nat.{ℕ}
 use lib.Dec.{eqb}
+use lib.ListN.{length}
 use borrow.Author.Tests.{eq-eqb, not-false}
 use Rattle.octets.specs.Basics.{first}
 use Rattle.octets.proofs.Choices.{none-holds, refusal-kept}
@@ -20,10 +21,11 @@ use Rattle.extractor.specs.Extract.{Step, in-step, astray, lost-since, take-in,
 use Rattle.extractor.specs.Records.{last-count, stands-for, set-off, set-out, enter, enter-rows}
 use Rattle.extractor.specs.Answers.{EnterSaid, entered-as, enter-answer}
 use Rattle.extractor.specs.declared.Extractor.{Extractor}
-use Rattle.bitstream.specs.Bitstream.{read-rows, reading}
+use Rattle.bitstream.specs.Bitstream.{Wrote, write-rows, written, read-rows, reading}
+use Rattle.bitstream.specs.declared.Writer.{Writer}
 use Rattle.bitstream.specs.declared.Reader.{Reader}
 use Rattle.bitstream.specs.declared.Reading.{Reading}
-use Rattle.demands.specs.Counts.{Entered, BitsRead, CountsTold}
+use Rattle.demands.specs.Counts.{Entered, BitsWritten, BitsRead, CountsTold}
 
 -- wherever a walk sets out, the frame's count is the last
 sets-off : (s : Settings) (c p h : ℕ) (inside : Bool) → last-count (set-off s c p inside h) ≡ some c
@@ -86,5 +88,13 @@ module _ (s : BitSettings) (x : Reader) (f : List ℕ) (taken : reading s x f .r
     replay = rw (eq-eqb _ _ bits-unrefused) (sym (bits-headed .1));
   }
 
+bits-written : (s : BitSettings) (w : Writer) (bits : List ℕ) (n : ℕ) (buffer : List ℕ) → written s w bits n buffer .said .refusal ≡ 0
+    → BitsWritten s w bits n buffer
+unfolding written
+bits-written s w bits n buffer taken =
+    let rows : ℕ = first (write-rows s w n (length bits) (length buffer)) in
+    let kept : written s w bits n buffer .said .refusal ≡ rows = refusal-kept (λ (a : Wrote). a .said .refusal) rows _ _ refl refl in
+    record { goes-on = rw (eq-eqb rows 0 (sym kept ∙ taken)) refl }
+
 pub counts-told : CountsTold
-counts-told = record { entered = entered; bits-read = bits-read }
+counts-told = record { entered = entered; bits-written = bits-written; bits-read = bits-read }

@@ -3,14 +3,17 @@
 use mathlib.Core.Path.{_≡_, refl, sym, ap, _∙_, subst}
 use mathlib.Core.List.{List, _∷_, map}
 use mathlib.Core.Bool.{Bool, true, false}
-use Prim.Native.Nat.{ℕ, _≤_, min}
+use mathlib.Core.Logic.{_⊎_, inl, inr}
+use Prim.Native.Nat.{ℕ, _≤_, _<_, min}
 use native.Mathlib.Omega.{arith}
-use lib.ListN.{length}
+use lib.ListN.{length, getD}
 use lib.Dec.{leb}
-use borrow.Author.Tests.{le-leb}
+use borrow.Author.Tests.{lt-leb, le-leb}
 use Rattle.octets.specs.Basics.{All}
 use Rattle.frames.specs.Frame.{in-range}
 use Rattle.frames.specs.BitFrame.{bits-in-range}
+use Rattle.octets.proofs.Choices.{and-false}
+use Rattle.frames.specs.Link.{link-in-range}
 use Rattle.frames.specs.declared.Edition.{Edition}
 use Rattle.frames.specs.declared.Edition.the-variants.{Former, CycleUnused, CycleUsed}
 use Rattle.frames.specs.declared.Link.{Link}
@@ -95,6 +98,25 @@ unfolding bit-settings-of
 bits-state s rest ok octet =
     rw (link-stated (s .link) _ (bits-settled s ok .on-link), zone-stated (s .width) (s .fill) (s .link .trailed) (s .link .edition) octet, uncut (s .fill) 255 octet) refl
 
+-- numbers that state none leave a zone of no octets, which is out of range
+zone-unstated : (zone fill trailer edition : ℕ) → (255 < fill) ⊎ (1 < trailer) ⊎ (2 < edition) → zone-for zone fill trailer edition ≡ 0
+unfolding zone-for
+zone-unstated zone fill trailer edition (inl h) = rw (lt-leb fill 255 h) refl
+zone-unstated zone fill trailer edition (inr (inl h)) = rw (lt-leb trailer 1 h, and-false (leb fill 255)) refl
+zone-unstated zone fill trailer edition (inr (inr h)) = rw (lt-leb edition 2 h, and-false (leb trailer 1), and-false (leb fill 255)) refl
+
+unstated : (settings : List ℕ) → (255 < getD settings 4 0) ⊎ (1 < getD settings 5 0) ⊎ (2 < getD settings 6 0) → in-range (settings-of settings) ≡ false
+unfolding settings-of in-range
+unstated settings h =
+    rw (zone-unstated (getD settings 2 0) (getD settings 4 0) (getD settings 5 0) (getD settings 6 0) h)
+    (and-false (link-in-range (link-of settings (getD settings 5 0) (getD settings 6 0))))
+
+bits-unstated : (settings : List ℕ) → (255 < getD settings 3 0) ⊎ (1 < getD settings 4 0) ⊎ (2 < getD settings 5 0) → bits-in-range (bit-settings-of settings) ≡ false
+unfolding bit-settings-of bits-in-range
+bits-unstated settings h =
+    rw (zone-unstated (getD settings 2 0) (getD settings 3 0) (getD settings 4 0) (getD settings 5 0) h)
+    (and-false (link-in-range (link-of settings (getD settings 4 0) (getD settings 5 0))))
+
 module _ (settings : List ℕ) (stated : settings-numbers ≤ length settings) where
   abbrev s : Settings
   s = settings-of settings
@@ -149,4 +171,4 @@ module _ (settings : List ℕ) (stated : settings-numbers ≤ length settings) w
       }
 
 pub over-c : OverC
-over-c = record { runs = runs-in-c; demand-2 = demand-2-in-c; losses = losses-in-c; demand-3 = demand-3-in-c; stated = states; bits-stated = bits-state }
+over-c = record { runs = runs-in-c; demand-2 = demand-2-in-c; losses = losses-in-c; demand-3 = demand-3-in-c; stated = states; bits-stated = bits-state; unstated = unstated; bits-unstated = bits-unstated }

@@ -25,7 +25,7 @@ use Rattle.carries.proofs.Weaker.{weaker}
 
 pass-1 : Pass1
 unfolding number-from number octets field part limit-in-range look space encapsulation counted sized header-length is-idle key-of size-of told reading
-pass-1 = record { first-octets = refl; second-octets = refl; space-5-8 = refl; encap-2-5 = refl; idle-7 = refl }
+pass-1 = record { first-octets = refl; second-octets = refl; unused-octets = refl; used-octets = refl; space-5-8 = refl; encap-2-5 = refl; idle-7 = refl }
 
 judged-passes : JudgedPasses
 unfolding bits all-bits moved step divided remainder extra right wrong number-at number-from number octets field part first look space encapsulation counted sized header-length is-idle primary zone-head usage cycle-width count-in used-as signals header-rows count-width missing frame-length unused frame-rows zone-of take-in step-of reason-of lost-since reason-in reason-by agreed agreed-look walked walk walk-turns walk-look is-fault faulty-entry faulty close judged verdict
@@ -44,6 +44,7 @@ table = record {
   passes-spoilt = spoilt-passes;
   passes-trailed = trailed-passes;
   judged-trailed = refl;
+  judged-trailed-cycle = refl;
   pass-5-pointers = frames.pass-5;
   pass-8 = packets.pass-8;
   pass-9-packets = wrapping.pass-9;

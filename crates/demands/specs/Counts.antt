@@ -3,7 +3,7 @@ use Prim.Native.Nat.{ℕ}
 use mathlib.Core.Path.{_≡_}
 use mathlib.Core.List.{List}
 use mathlib.Core.Option.{some}
-use Rattle.frames.specs.Link.{count-width, missing}
+use Rattle.frames.specs.Link.{count-width, next-count, missing}
 use Rattle.frames.specs.Frame.{heading}
 use Rattle.frames.specs.BitFrame.{bit-heading}
 use Rattle.frames.specs.declared.Settings.{Settings}
@@ -12,7 +12,8 @@ use Rattle.extractor.specs.Records.{last-count}
 use Rattle.extractor.specs.Answers.{enter-answer}
 use Rattle.extractor.specs.declared.Extractor.{Extractor}
 use Rattle.extractor.specs.declared.Extractor.the-variants.{Fresh}
-use Rattle.bitstream.specs.Bitstream.{reading}
+use Rattle.bitstream.specs.Bitstream.{written, reading}
+use Rattle.bitstream.specs.declared.Writer.{Writer}
 use Rattle.bitstream.specs.declared.Reader.{Reader}
 
 -- entering a frame that is not refused: its count and replay flag; none missing before a first frame, and else as many as the wheel says; the count goes on as the
@@ -29,6 +30,12 @@ pub record BitsRead (s : BitSettings) (x : Reader) (f : List ℕ) : Type 0 where
   pub count : reading s x f .count ≡ bit-heading s f .count
   pub replay : reading s x f .replay ≡ bit-heading s f .replay
 
+-- and of one that is written: the next count is the one after it
+pub record BitsWritten (s : BitSettings) (w : Writer) (bits : List ℕ) (n : ℕ) (buffer : List ℕ) : Type 0 where
+  pub goes-on : written s w bits n buffer .said .writer .count ≡ next-count (count-width (s .link)) (w .count)
+
 pub record CountsTold : Type 0 where
   pub entered : (s : Settings) (x : Extractor) (store f : List ℕ) → enter-answer s x store f .answer .refusal ≡ 0 → Entered s x store f
+  pub bits-written : (s : BitSettings) (w : Writer) (bits : List ℕ) (n : ℕ) (buffer : List ℕ) → written s w bits n buffer .said .refusal ≡ 0
+      → BitsWritten s w bits n buffer
   pub bits-read : (s : BitSettings) (x : Reader) (f : List ℕ) → reading s x f .refusal ≡ 0 → BitsRead s x f

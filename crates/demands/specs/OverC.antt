@@ -1,11 +1,11 @@
 -- Demand 2's list, events and loss flags, and Demand 3, of the C interface. The arrays that a call leaves state the record that the library hands
 -- on, so a run of C calls is the library's run.
-use Prim.Native.Nat.{ℕ, _%_, _≤_}
-use mathlib.Core.Logic.{_↔_}
+use Prim.Native.Nat.{ℕ, _%_, _≤_, _<_}
+use mathlib.Core.Logic.{_↔_, _⊎_}
 use mathlib.Core.Path.{_≡_}
 use mathlib.Core.List.{List, [], _∷_, _++_, map}
-use mathlib.Core.Bool.{true}
-use lib.ListN.{length}
+use mathlib.Core.Bool.{true, false}
+use lib.ListN.{length, getD}
 use Rattle.octets.specs.Basics.{All}
 use Rattle.packets.specs.Packet.{WellFormed, end-to-end}
 use Rattle.frames.specs.Frame.{in-range, most-frames}
@@ -125,3 +125,6 @@ pub record OverC : Type 0 where
       → settings-of (s .link .spacecraft ∷ s .link .channel ∷ s .zone ∷ s .limit ∷ s .fill ∷ bit (s .link .trailed) ∷ edition-number (s .link .edition) ∷ rest) ≡ s
   pub bits-stated : (s : BitSettings) (rest : List ℕ) → bits-in-range s ≡ true → s .fill ≤ 255
       → bit-settings-of (s .link .spacecraft ∷ s .link .channel ∷ s .width ∷ s .fill ∷ bit (s .link .trailed) ∷ edition-number (s .link .edition) ∷ rest) ≡ s
+  -- and numbers that state no fill octet, no trailer's flag or no edition are out of range, whatever the others are
+  pub unstated : (settings : List ℕ) → (255 < getD settings 4 0) ⊎ (1 < getD settings 5 0) ⊎ (2 < getD settings 6 0) → in-range (settings-of settings) ≡ false
+  pub bits-unstated : (settings : List ℕ) → (255 < getD settings 3 0) ⊎ (1 < getD settings 4 0) ⊎ (2 < getD settings 5 0) → bits-in-range (bit-settings-of settings) ≡ false
