@@ -2,6 +2,7 @@
 // any text up to it, 4,096 octets at most of either, and every other sign for itself.
 use crate::hex;
 use crate::text;
+use frames::Edition;
 
 // What is asked of the multiplexer.
 pub(crate) enum Call {
@@ -34,9 +35,8 @@ pub(crate) enum Verb {
     Note,
     // What each line that is printed begins with, from here on.
     Label,
-    // A channel at its beginning, for packets and for bits; and one with headers of 732.0-B-3.
-    Channel,
-    NewChannel,
+    // A channel at its beginning, for packets and for bits, with headers of this edition.
+    Channel(Edition),
     // Trailers on the channel's frames, from here on.
     Trailers,
     // Calls of the multiplexer; a packet is put until it is taken.
@@ -79,7 +79,7 @@ pub(crate) struct Asked {
     pub(crate) numbers: Numbers,
 }
 
-const NONE: Numbers = Numbers {
+pub(crate) const NONE: Numbers = Numbers {
     fit: false,
     end: 0,
     first: 0,
@@ -97,7 +97,7 @@ fn verb_at(k: usize) -> Verb {
     match k {
         0..=2 => Verb::Note,
         3 => Verb::Label,
-        4 => Verb::Channel,
+        4 => Verb::Channel(Edition::Former),
         5 => Verb::Transmit(Call::Put),
         6 => Verb::Transmit(Call::Flush),
         7 => Verb::Transmit(Call::IdleZone),
@@ -116,7 +116,8 @@ fn verb_at(k: usize) -> Verb {
         21 => Verb::Route,
         22 => Verb::Trailers,
         23 | 24 => Verb::Ask(Question::Remainder),
-        25 => Verb::NewChannel,
+        25 => Verb::Channel(Edition::CycleUnused),
+        26 => Verb::Channel(Edition::CycleUsed),
         _ => Verb::Unknown,
     }
 }
@@ -251,7 +252,8 @@ route into % octets: $
 trailers
 remainder $
 remainder of nothing
-channel % of spacecraft %, zone %, limit %, count usage %
+channel % of spacecraft %, zone %, limit %, count usage 0
+channel % of spacecraft %, zone %, limit %, count usage 1
 ";
     find(forms, line)
 }

@@ -1,5 +1,6 @@
 // One channel from end to end: packets go through the multiplexer, and an extractor hears each frame that is written.
 use crate::forms::Call;
+use crate::forms::Numbers;
 use crate::hex::Given;
 use crate::say;
 use crate::text;
@@ -52,34 +53,19 @@ struct Called {
     ends: Ends,
 }
 
-// The edition of 732.0-B-3 with this count usage.
-pub(crate) fn used_as(usage: usize) -> Edition {
-    if usage == 0 {
-        return Edition::CycleUnused;
-    }
-    Edition::CycleUsed
-}
-
-// A channel at its beginning, with 55 for its fill and no trailers.
-pub(crate) fn begin(
-    label: Given,
-    edition: Edition,
-    channel: usize,
-    spacecraft: usize,
-    zone: usize,
-    limit: usize,
-) -> Ends {
+// A channel at its beginning, with 55 for its fill and no trailers: its number, the spacecraft, the zone and the limit.
+pub(crate) fn begin(label: Given, edition: Edition, n: Numbers) -> Ends {
     Ends {
         label,
         settings: Settings {
             link: Link {
-                spacecraft: (spacecraft % 4294967296) as u32,
-                channel: (channel % 4294967296) as u32,
+                spacecraft: (n.sixth % 4294967296) as u32,
+                channel: (n.fifth % 4294967296) as u32,
                 trailed: false,
                 edition,
             },
-            zone,
-            limit,
+            zone: n.seventh,
+            limit: n.last,
             fill: 0x55,
         },
         mux: multiplexer::begin(),

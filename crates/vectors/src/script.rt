@@ -24,22 +24,7 @@ fn refuse(number: u64, line: &[u8]) {
 fn obey(verb: Verb, n: Numbers, p: &[u8], line: &[u8], e: Ends) -> Ends {
     match verb {
         Verb::Label => run::label(e, line, n.last),
-        Verb::Channel => run::begin(
-            e.label,
-            Edition::Former,
-            n.fifth,
-            n.sixth,
-            n.seventh,
-            n.last,
-        ),
-        Verb::NewChannel => run::begin(
-            e.label,
-            run::used_as(n.last),
-            n.fourth,
-            n.fifth,
-            n.sixth,
-            n.seventh,
-        ),
+        Verb::Channel(edition) => run::begin(e.label, edition, n),
         Verb::Trailers => run::trail(e),
         Verb::Transmit(call) => run::transmit(call, e, p),
         Verb::Read => run::hear(e, p),
@@ -64,7 +49,7 @@ fn act(asked: Asked, line: &[u8], e: Ends) -> Ends {
 
 // Every line, up to one that is not understood.
 pub(crate) fn follow(text: &[u8]) {
-    let mut e = run::begin(hex::NONE, Edition::Former, 0, 0, 0, 0);
+    let mut e = run::begin(hex::NONE, Edition::Former, forms::NONE);
     let mut number: u64 = 1;
     let mut at = 0;
     while at < text.len() {
