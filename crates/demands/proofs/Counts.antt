@@ -1,6 +1,7 @@
 -- The counts that the calls tell are those of the headers.
 -- Assumes nothing.
 use mathlib.Core.Path.{_≡_, refl, sym, _∙_}
+use mathlib.Core.Logic.{Iff·rfl}
 use mathlib.Core.List.{List}
 use mathlib.Core.Option.{some}
 use mathlib.Core.Bool.{Bool, true}
@@ -25,7 +26,8 @@ use Rattle.bitstream.specs.Bitstream.{Wrote, write-rows, written, read-rows, re
 use Rattle.bitstream.specs.declared.Writer.{Writer}
 use Rattle.bitstream.specs.declared.Reader.{Reader}
 use Rattle.bitstream.specs.declared.Reading.{Reading}
-use Rattle.demands.specs.Counts.{Entered, BitsWritten, BitsRead, CountsTold}
+use Rattle.carries.specs.Carries.{Rising}
+use Rattle.demands.specs.Counts.{Entered, BitsWritten, BitsRead, Rises, CountsTold}
 
 -- wherever a walk sets out, the frame's count is the last
 sets-off : (s : Settings) (c p h : ℕ) (inside : Bool) → last-count (set-off s c p inside h) ≡ some c
@@ -96,5 +98,9 @@ bits-written s w bits n buffer taken =
     let kept : written s w bits n buffer .said .refusal ≡ rows = refusal-kept (λ (a : Wrote). a .said .refusal) rows _ _ refl refl in
     record { goes-on = rw (eq-eqb rows 0 (sym kept ∙ taken)) refl }
 
+rises : Rises
+unfolding Rising
+rises = record { none = λ s. tt; one = λ s f. tt; more = λ s f g fs. Iff·rfl }
+
 pub counts-told : CountsTold
-counts-told = record { entered = entered; bits-written = bits-written; bits-read = bits-read }
+counts-told = record { entered = entered; bits-written = bits-written; rises = rises; bits-read = bits-read }
