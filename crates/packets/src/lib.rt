@@ -44,6 +44,9 @@ const IDLE_APID: u64 = 2047;
 
 const IDLE_PROTOCOL: u8 = 0;
 
+// The greatest length-of-length: both of its bits are 1.
+const MOST_CODE: usize = 3;
+
 // The protocol that the extension names further: its headers have one.
 pub const EXTENDED_PROTOCOL: u8 = 6;
 
@@ -92,16 +95,14 @@ fn in_range(limit: usize) -> bool
     (limits::LEAST <= limit) & (limit <= limits::MOST)
 }
 
-// The length of an encapsulation packet's header for its length-of-length field, which is `code` in this crate.
+// The length of an encapsulation packet's header for its length-of-length field, which is `code` in this crate: one octet, doubled `code`
+// times; a number past the field's two bits counts as 3. The rule is from source document 002 (CCSDS 133.1-B-2): 4.2.2.1.1 has the lengths
+// 1, 2, 4 and 8; figure 4-2 (page 4-3) has the parts of a header for each number of the field; tables 4-1 (page 4-4) and 4-2 (page 4-6)
+// have the octets of its length field for each number, and those of the header for each length field.
 pub fn header_length(code: u8) -> usize
     ensures { λ r. ⌜ r ≡ header-length code ⌝ }
 {
-    match code {
-        0 => 1,
-        1 => 2,
-        2 => 4,
-        _ => 8,
-    }
+    1 << octets::least(code as usize, MOST_CODE)
 }
 
 // A header of `size` octets is whole and states `total`.
