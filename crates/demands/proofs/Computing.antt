@@ -1,6 +1,6 @@
 -- What the rules compute with, crate by crate: to unfold one of these is to unfold all that its line names.
 -- Assumes nothing.
-use Rattle.octets.specs.Basics.{number-from, number, octets, part, over, first, number-at, part-of, laid, laid-part}
+use Rattle.octets.specs.Basics.{number-from, number, octets, part, cut, over, first, number-at, part-of, laid, laid-part}
 use Rattle.words.specs.Fields.{field, join, placed}
 use Rattle.packets.specs.Packet.{limit-in-range, sized, counted, space, header-length, encapsulation, look, damage-in, carried, states, well-formed, is-idle, key-of, size-of}
 use Rattle.packets.specs.Header.{told, reading, version-of, answer}
@@ -27,7 +27,8 @@ use Rattle.extractor.specs.Records.{unfinished, holds-well, reachable, is-enter
 use Rattle.extractor.specs.Answers.{entered-numbers, enter-answer, found-numbers, step-answer}
 use Rattle.extractor.specs.Calls.{event-at, steps, spend-answer}
 use Rattle.judge.specs.Judge.{is-fault, faulty-entry}
-use Rattle.judge.specs.Calls.{counts-well, judge-reachable, frame-refusals, close-rows, stepped-through, try-frame, judge-frame, frame-call, judge-close, close-says, closes-with, close-call}
+use Rattle.judge.specs.Calls.{counts-well, judge-reachable, frame-refusals, close-rows, stepped-through, try-frame, judge-frame, frame-call, judge-close, close-says, closes-with, close-call, calls}
+use Rattle.judge.specs.Tapes.{tape-refusals, tape-call}
 use Rattle.bitstream.specs.Bitstream.{octets-for, pointer-for, valid-bits, mixed, last-octet, zone-with, writer-reachable, write-rows, frame-with, written, reader-reachable, read-rows, untold, loss-flag, next-reader, leading-octets}
 use Rattle.bitstream.specs.Bitstream as bits
 use Rattle.bitstream.specs.Statements.{run-read}
@@ -40,13 +41,13 @@ use Rattle.exports.specs.Packet.{kind-number, header-numbers, header-leaves, fo
 use Rattle.exports.specs.Spaces.{space-numbers, read-space-leaves, header-of, write-space-leaves}
 use Rattle.exports.specs.Mux.{mux-numbers, mux-of, begin-leaves, put-numbers, flush-numbers, mux-leaves}
 use Rattle.exports.specs.Extract.{extractor-numbers, extractor-with, enter-numbers, enter-leaves, step-numbers, step-leaves, part-numbers, show-numbers, show-leaves}
-use Rattle.exports.specs.Judging.{judge-numbers, judge-with, judge-leaves, close-numbers, close-leaves}
+use Rattle.exports.specs.Judging.{judge-numbers, judge-with, judging-leaves, close-numbers, close-leaves}
 use Rattle.exports.specs.Relaying.{entry-of, entry-numbers, table-numbers, wide, load-leaves, route-numbers, route-leaves}
 use Rattle.exports.specs.Relaying as relaying
 use Rattle.exports.specs.Bits.{bits-short, bit-settings-of, writer-of, write-leaves, reader-numbers, reader-with, read-numbers, read-leaves}
 
 unfoldable pub packets : Unit {0}
-unfolding number-from number octets field join placed part over first number-at part-of laid laid-part limit-in-range sized counted space header-length encapsulation look damage-in carried states well-formed is-idle key-of size-of told reading version-of answer first-octet second-octet front idle-header idle-packet idle-packet-rows length-of-length-for wrapped-total wrapped wrap-in-range wrap-rows wrapping wraps extension-of reserved-of unwrap-rows unwrapping unwraps unit-part space-fields space-word space-in-range space-read-rows space-reading space-reads space-rows space-writing
+unfolding number-from number octets field join placed part cut over first number-at part-of laid laid-part limit-in-range sized counted space header-length encapsulation look damage-in carried states well-formed is-idle key-of size-of told reading version-of answer first-octet second-octet front idle-header idle-packet idle-packet-rows length-of-length-for wrapped-total wrapped wrap-in-range wrap-rows wrapping wraps extension-of reserved-of unwrap-rows unwrapping unwraps unit-part space-fields space-word space-in-range space-read-rows space-reading space-reads space-rows space-writing
 packets = tt
 
 unfoldable pub relays : Unit {0}
@@ -70,7 +71,7 @@ unfolding frames agreed-look agreed reason-by reason-in lost-since reason-of dam
 extracting = tt
 
 unfoldable pub judging : Unit {0}
-unfolding extracting is-fault faulty-entry counts-well judge-reachable frame-refusals close-rows stepped-through try-frame judge-frame frame-call judge-close close-says closes-with close-call
+unfolding extracting is-fault faulty-entry counts-well judge-reachable frame-refusals close-rows stepped-through try-frame judge-frame frame-call judge-close close-says closes-with close-call calls tape-refusals tape-call
 judging = tt
 
 unfoldable pub bitstreams : Unit {0}
@@ -82,5 +83,5 @@ unfolding frames setup-of plain fits stop with-setup with-frame stands nothing-a
 run-files = tt
 
 unfoldable pub arrays : Unit {0}
-unfolding multiplexing judging bitstreams relays relaying.entries-of entry-of relaying.table-of entry-numbers table-numbers wide load-leaves route-numbers route-leaves short edition-of zone-for link-of settings-of kind-number header-numbers header-leaves formed-numbers formed-leaves wrap-numbers wrap-leaves unwrap-numbers unwrap-leaves unit-numbers unit-leaves space-numbers read-space-leaves header-of write-space-leaves mux-numbers mux-of begin-leaves put-numbers flush-numbers mux-leaves extractor-numbers extractor-with enter-numbers enter-leaves step-numbers step-leaves part-numbers show-numbers show-leaves judge-numbers judge-with judge-leaves close-numbers close-leaves bits-short bit-settings-of writer-of write-leaves reader-numbers reader-with read-numbers read-leaves
+unfolding multiplexing judging bitstreams relays relaying.entries-of entry-of relaying.table-of entry-numbers table-numbers wide load-leaves route-numbers route-leaves short edition-of zone-for link-of settings-of kind-number header-numbers header-leaves formed-numbers formed-leaves wrap-numbers wrap-leaves unwrap-numbers unwrap-leaves unit-numbers unit-leaves space-numbers read-space-leaves header-of write-space-leaves mux-numbers mux-of begin-leaves put-numbers flush-numbers mux-leaves extractor-numbers extractor-with enter-numbers enter-leaves step-numbers step-leaves part-numbers show-numbers show-leaves judge-numbers judge-with judging-leaves close-numbers close-leaves bits-short bit-settings-of writer-of write-leaves reader-numbers reader-with read-numbers read-leaves
 arrays = tt

@@ -1,13 +1,13 @@
 -- Demand 3: the judge's calls come to the rules' verdict, and the extractor's hear what the rules hear.
 -- Assumes nothing.
-use mathlib.Core.Path.{_≡_, refl, sym, ap, _∙_}
+use mathlib.Core.Path.{_≡_, refl, sym, ap, ap₂, _∙_}
 use mathlib.Core.List.{List, [], _∷_}
 use mathlib.Core.Bool.{true, false}
 use Prim.Native.Nat.{ℕ, suc, _+_, _≤_}
 use native.Mathlib.Omega.{arith}
 use lib.ListN.{length}
 use Rattle.octets.proofs.Choices.{apart}
-use Rattle.frames.specs.Frame.{in-range}
+use Rattle.frames.specs.Frame.{in-range, most-frames}
 use Rattle.frames.specs.declared.Settings.{Settings}
 use Rattle.extractor.specs.Extract.{State, fresh, any-torn, take-in}
 use Rattle.extractor.specs.Records.{reachable, is-entered, stands-for, enter}
@@ -18,9 +18,14 @@ use Rattle.extractor.specs.declared.Extractor.the-variants.{Fresh}
 use Rattle.extractor.proofs.Listens.{entering-refusal, listen-heard}
 use Rattle.extractor.proofs.Settles.{Settles, steps-are-events}
 use Rattle.judge.specs.Judge.{opened, Verdict, pass, fault, close, judged, verdict}
-use Rattle.judge.specs.Calls.{close-says, closes-with}
+use Rattle.judge.specs.Calls.{counts-well, judge-reachable, close-says, closes-with, close-call, judge-calls}
+use Rattle.judge.specs.Tapes.{tape-calls, CutInto}
+use Rattle.judge.specs.Statements.{LeaveTheSame}
+use Rattle.judge.specs.declared.Judge.{Judge}
+use Rattle.judge.specs.declared.Judge.the-variants.{Open}
 use Rattle.judge.proofs.Faults.{no-reason, entered-events, Passes}
 use Rattle.judge.proofs.Runs.{run-ran, run-is-verdict}
+use Rattle.judge.proofs.Tapes.{tapes-are-frames}
 use Rattle.judge.proofs.Verdicts.{walked-to, judged-step, judged-passes, judged-rest}
 use Rattle.carries.specs.Carries.{Carries}
 use Rattle.demands.specs.Demand3.{Smooth, SmoothRun, HandsOver, Demand3}
@@ -115,6 +120,12 @@ pass-passes = refl
 
 -- ---- demand 3
 
+-- a fresh judge's tapes
+taped : (s : Settings) (store : List ℕ) (fs ts : List (List ℕ)) → in-range s ≡ true → s .limit ≤ length store → length fs ≤ most-frames
+    → CutInto s fs ts → LeaveTheSame (tape-calls s store Open ts) (judge-calls s store Open fs)
+unfolding judge-reachable counts-well reachable
+taped s store fs ts ok room few = tapes-are-frames .anywhere s store Open fs ts (ok, room) refl (omega arith)
+
 pub demand-3 : Demand3
 demand-3 s store fs ok room few =
     let d = judged-right s ok fs in
@@ -129,4 +140,8 @@ demand-3 s store fs ok room few =
       );
       only = d .only;
       handed-over = λ ps c lent wide. hands-over s lent fs ok wide ps c;
+      in-tapes = λ ts c. taped s store fs ts ok room few c;
+      tapes-close = λ ts c.
+          let t = taped s store fs ts ok room few c in
+          ap₂ (λ (left : List ℕ) (j : Judge). close-call s left j) (t .same-store) (t .same-next);
     }

@@ -179,6 +179,10 @@ judge = record {
   not-reached = refl;
 }
 
+tape : judging.TapeRefusals
+unfolding computing.judging
+tape = record { each = refl; order = refl; last-frames = refl; with-a-rest = refl; past-the-last = refl; trailed = refl }
+
 wrap : wrapping.Refusals
 unfolding computing.packets
 wrap = record { wrap = refl; unwrap = refl; wrap-order = refl; unwrap-order = refl }
@@ -265,6 +269,19 @@ judged = record {
   later = refl;
   held = refl;
   replayed = refl;
+}
+
+taped : judging.Tapes
+unfolding computing.judging
+taped = record {
+  cut = refl;
+  taken = refl;
+  first-taken = refl;
+  second-taken = refl;
+  faulted = refl;
+  later = refl;
+  none = refl;
+  refused = refl;
 }
 
 closed : judging.Verdicts
@@ -601,6 +618,7 @@ numbers = record {
     records = records;
     step = step;
     judge = judge;
+    tape = tape;
     wrap = wrap;
     damage = damage-carried;
     write-idle = write-idle;
@@ -615,6 +633,7 @@ numbers = record {
     damaged = damaged-walks;
     spent = spent;
     judged = judged;
+    taped = taped;
     closed = closed;
     wrapped = wrapped;
     unwrapped = unwrapped;

@@ -62,6 +62,8 @@ unfolding computing.arrays
 judge = record {
   judged = refl;
   faulted = refl;
+  taped = refl;
+  tape-edges = refl;
   closed = refl;
 }
 
@@ -92,7 +94,7 @@ relay = record {
 
 short : arrays.Short
 unfolding computing.arrays
-short = record { packets = refl; space = refl; mux = refl; extractor = refl; judge = refl; bits = refl; relay = refl; route = refl }
+short = record { packets = refl; space = refl; mux = refl; extractor = refl; judge = refl; tape = refl; bits = refl; relay = refl; route = refl }
 
 outside : arrays.Outside
 unfolding computing.arrays
@@ -103,6 +105,7 @@ outside = record {
   enter = refl;
   step = refl;
   judge = refl;
+  tape = refl;
   close = refl;
   write = refl;
   read = refl;
@@ -117,6 +120,7 @@ refused = record {
   entered = refl;
   stepped = refl;
   judged = refl;
+  taped = refl;
   closed = refl;
   flushed = refl;
   written = refl;

@@ -33,7 +33,8 @@ use Rattle.extractor.specs.Records.{checked, enter-rows, steps-to, step-rows, s
 use Rattle.extractor.specs.Answers.{refused-entry, entered-as, enter-answer, refused-step, said, found-numbers, step-answer}
 use Rattle.extractor.specs.Calls.{spend-answer}
 use Rattle.extractor.specs.declared.Found.the-variants.{Refused}
-use Rattle.judge.specs.Calls.{judging, judge-frame, frame-refusals, answers-frame, frame-call, judge-close, close-rows, close-says, closes-with, close-call}
+use Rattle.judge.specs.Calls.{judging, judge-frame, frame-refusals, judge-answers, frame-call, judge-close, close-rows, close-says, closes-with, close-call}
+use Rattle.judge.specs.Tapes.{tape-refusals, tape-call}
 use Rattle.judge.specs.declared.Closed.{Closed}
 use Rattle.bitstream.specs.Bitstream.{write-rows, Wrote, wrote, written, read-rows, reading}
 use Rattle.bitstream.specs.declared.Reading.{Reading}
@@ -95,7 +96,7 @@ headed rows c r p =
     (λ n. record { refusal = n; count = 0; replay = 0; pointer = 0 }) refl refl (λ n. refl)
 
 pub only-these : OnlyThese
-unfolding put-rows flush-rows idle-rows enter-rows frame-rows header-rows step-rows frame-refusals close-rows wrap-rows unwrap-rows space-rows write-rows read-rows bit-frame-rows heading-rows bit-heading-rows written-rows head-rows bit-head-rows heading bit-heading idle-packet-rows space-read-rows space-reading space-reads enter-answer step-answer step-call found-numbers spend-answer frame-call close-call close-says wrapping unwrapping space-writing load-rows route-rows routing written reading
+unfolding put-rows flush-rows idle-rows enter-rows frame-rows header-rows step-rows frame-refusals tape-refusals close-rows wrap-rows unwrap-rows space-rows write-rows read-rows bit-frame-rows heading-rows bit-heading-rows written-rows head-rows bit-head-rows heading bit-heading idle-packet-rows space-read-rows space-reading space-reads enter-answer step-answer step-call found-numbers spend-answer frame-call tape-call close-call close-says wrapping unwrapping space-writing load-rows route-rows routing written reading
 only-these = record {
   put = λ s m p frame. called s m (to-put p) frame;
   flush = λ s m frame. called s m to-flush frame;
@@ -111,8 +112,10 @@ only-these = record {
   spend = λ s x store f. first-among (step-rows s x store f);
   held = λ s x store. first-among (checked s x store []);
   judge = λ s store j f.
-      among (λ a. a .refusal) (frame-refusals s store j) (answers-frame 0 (judge-frame s store j f)) (λ n. answers-frame n (judging j store))
+      among (λ a. a .refusal) (frame-refusals s store j) (judge-answers 0 (judge-frame s store j f)) (λ n. judge-answers n (judging j store))
       refl refl (λ n. refl);
+  tape = λ s store j t.
+      among (λ a. a .refusal) (tape-refusals s store j t) _ (λ n. judge-answers n (judging j store)) refl refl (λ n. refl);
   close = λ s store j.
       among (λ a. a .refusal) (close-rows s store j) (close-says (closes-with (judge-close j))) (λ n. close-says (Closed.Refused n))
       (through close-says (eqb (first (close-rows s store j)) 0) (closes-with (judge-close j)) (Closed.Refused (first (close-rows s store j))))

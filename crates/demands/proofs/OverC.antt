@@ -25,7 +25,9 @@ use Rattle.multiplexer.specs.Calls.{Call, to-put}
 use Rattle.extractor.specs.Extract.{events-in}
 use Rattle.extractor.specs.Calls.{Listened}
 use Rattle.extractor.proofs.Theorems.{says-the-rules}
-use Rattle.judge.specs.Calls.{CloseSaid, RunCalls}
+use Rattle.judge.specs.Calls.{frame-call, CloseSaid, RunCalls}
+use Rattle.judge.specs.Tapes.{tape-call}
+use Rattle.judge.proofs.Theorems.{keeps-to-the-test}
 use Rattle.arrays.specs.Arrays.{bit}
 use Rattle.exports.specs.Channel.{settings-numbers, edition-number, edition-of, zone-for, link-of, settings-of}
 use Rattle.exports.specs.Bits.{bit-settings-of}
@@ -37,7 +39,7 @@ use Rattle.demands.specs.OverC.{Long, RunsInC, HandedOverInC, Demand2InC
 use Rattle.carries.proofs.CarefulRuns.{run-delivers, list-carried}
 use Rattle.demands.proofs.Demand3.{demand-3}
 use Rattle.demands.proofs.OverC.Arrays.{flag-back}
-use Rattle.demands.proofs.OverC.Judges.{judges-in-c, closes-in-c}
+use Rattle.demands.proofs.OverC.Judges.{judged-in-c, closed-in-c}
 use Rattle.demands.proofs.OverC.Listens.{names-inside, listens-in-c, smooth-in-c}
 use Rattle.demands.proofs.RoundTrips.{orders-handed-over, list-handed-over}
 use Rattle.demands.proofs.OverC.Sends.{sends-in-c}
@@ -125,8 +127,10 @@ module _ (settings : List ℕ) (stated : settings-numbers ≤ length settings) w
   runs-in-c = record {
     sending = λ array answer lend cs l. sends-in-c settings stated array answer lend cs (l .numbers) (l .answers);
     listening = λ array store answer fs l. listens-in-c settings stated array store answer (l .numbers) (l .answers) fs;
-    judging = λ array store fs l. judges-in-c settings stated array store l fs;
-    closing = λ array store answer fs l. closes-in-c settings stated array store (l .numbers) fs answer (l .answers);
+    judging = λ array store fs l. judged-in-c frame-call (keeps-to-the-test .frame) settings stated array store l fs;
+    closing = λ array store answer fs l. closed-in-c frame-call (keeps-to-the-test .frame) settings stated array store (l .numbers) fs answer (l .answers);
+    judging-tapes = λ array store ts l. judged-in-c tape-call (keeps-to-the-test .tape) settings stated array store l ts;
+    closing-tapes = λ array store answer ts l. closed-in-c tape-call (keeps-to-the-test .tape) settings stated array store (l .numbers) ts answer (l .answers);
     naming = λ numbers store f answer l. names-inside settings stated f numbers store answer l;
   }
 
@@ -168,6 +172,9 @@ module _ (settings : List ℕ) (stated : settings-numbers ≤ length settings) w
         close-accepted = ap (λ (c : CloseSaid). c .refusal) closed ∙ d .close-accepted;
         passes-exactly = ((λ e. d .passes-exactly .0 (sym passed ∙ e)), (λ c. passed ∙ d .passes-exactly .1 c));
         handed-over = λ ps c. hand-over fs ps (d .handed-over ps c);
+        tapes-accepted = λ ts c.
+            subst (λ (r : RunCalls). All (λ n. n ≡ 0) (r .refusals)) (sym (runs-in-c .judging-tapes array store ts (l .numbers))) (d .in-tapes ts c .tapes-taken);
+        tapes-close = λ ts c. runs-in-c .closing-tapes array store answer ts l ∙ d .tapes-close ts c ∙ sym closed;
       }
 
 pub over-c : OverC

@@ -15,6 +15,8 @@ use Rattle.extractor.specs.declared.Extractor.{Extractor}
 use Rattle.extractor.specs.declared.Extractor.the-variants.{Fresh}
 use Rattle.judge.specs.Judge.{verdict}
 use Rattle.judge.specs.Calls.{close-says, closes-with, judge-calls, judge-run}
+use Rattle.judge.specs.Tapes.{tape-calls, tape-run, CutInto}
+use Rattle.judge.specs.Statements.{LeaveTheSame}
 use Rattle.judge.specs.declared.Judge.the-variants.{Open}
 use Rattle.carries.specs.Carries.{Carries}
 
@@ -41,8 +43,9 @@ pub record HandsOver (s : Settings) (store : List ℕ) (fs ps : List (List ℕ))
   pub exactly : events-in (listen s Fresh store fs .told) ≡ marked ps
 
 -- The judge, lent this store, refuses neither a frame nor the close, comes to the verdict of the written rules with the index of the first
--- fault, and passes the run exactly when some list is carried. That
--- list is then the only one, and an extractor with any store that is long enough hands it over.
+-- fault, and passes the run exactly when some list is carried. That list is then the only one, and an extractor with any store that is
+-- long enough hands it over. In tapes, cut anywhere between two frames, the run comes to the same: none is refused, and they leave the same
+-- record and the same store.
 pub record Judges (s : Settings) (store : List ℕ) (fs : List (List ℕ)) : Type 0 where
   pub frames-accepted : All (λ n. n ≡ 0) (judge-calls s store Open fs .refusals)
   pub close-accepted : judge-run s store fs .refusal ≡ 0
@@ -50,6 +53,8 @@ pub record Judges (s : Settings) (store : List ℕ) (fs : List (List ℕ)) : Typ
   pub passes-exactly : (judge-run s store fs .passes ≡ true) ↔ ((ps : List (List ℕ)) × Carries s fs ps)
   pub only : (ps qs : List (List ℕ)) → Carries s fs ps → Carries s fs qs → ps ≡ qs
   pub handed-over : (ps : List (List ℕ)) → Carries s fs ps → (lent : List ℕ) → s .limit ≤ length lent → HandsOver s lent fs ps
+  pub in-tapes : (ts : List (List ℕ)) → CutInto s fs ts → LeaveTheSame (tape-calls s store Open ts) (judge-calls s store Open fs)
+  pub tapes-close : (ts : List (List ℕ)) → CutInto s fs ts → tape-run s store ts ≡ judge-run s store fs
 
 -- so for all settings in range, any store that is long enough, whatever it holds, and every run up to the judge's last frame
 abbrev pub Demand3 : Type 0

@@ -63,6 +63,7 @@ pub record Refusals : Type 0 where
   pub records : entering.Records
   pub step : stepping.Refusals
   pub judge : judging.Refusals
+  pub tape : judging.TapeRefusals
   pub wrap : wrapping.Refusals
   pub damage : damages.Refusals
   pub write-idle : IdlePackets
@@ -78,6 +79,7 @@ pub record Outcomes : Type 0 where
   pub damaged : damages.Walks
   pub spent : stepping.Spending
   pub judged : judging.Faults
+  pub taped : judging.Tapes
   pub closed : judging.Verdicts
   pub wrapped : wrapping.Wrapped
   pub unwrapped : wrapping.Units

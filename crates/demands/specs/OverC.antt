@@ -19,6 +19,7 @@ use Rattle.extractor.specs.Calls.{listen}
 use Rattle.extractor.specs.Statements.{Fit}
 use Rattle.extractor.specs.declared.Extractor.the-variants.{Fresh}
 use Rattle.judge.specs.Calls.{judge-calls, judge-run}
+use Rattle.judge.specs.Tapes.{tape-calls, tape-run, CutInto}
 use Rattle.judge.specs.declared.Judge.the-variants.{Open}
 use Rattle.arrays.specs.Arrays.{bit}
 use Rattle.exports.specs.Left.{Left}
@@ -31,7 +32,7 @@ use Rattle.carries.specs.Demand2List.{Lends, Delivers}
 use Rattle.demands.specs.Demand3.{Smooth}
 use Rattle.demands.specs.OverC.Sending.{as-sending, run-in-c}
 use Rattle.demands.specs.OverC.Listening.{Holding, holding, zeroed, Inside, as-finds, FrameInC, frame-in-c, as-listened, listen-in-c}
-use Rattle.demands.specs.OverC.Judging.{as-calls, judge-in-c, close-in-c}
+use Rattle.demands.specs.OverC.Judging.{as-calls, judge-in-c, tapes-in-c, close-in-c, close-tapes-in-c}
 use Rattle.demands.specs.OverC.Reading.{reader-zeroed, read-in-c}
 pub mod Sending
 pub mod Listening
@@ -57,6 +58,10 @@ pub record RunsInC (settings : List ℕ) (s : Settings) : Type 0 where
       → as-calls (judge-in-c settings (zeroed array) store fs) ≡ judge-calls s store Open fs
   pub closing : (array store answer : List ℕ) (fs : List (List ℕ)) → Long array answer 2
       → close-in-c settings array store answer fs ≡ judge-run s store fs
+  pub judging-tapes : (array store : List ℕ) (ts : List (List ℕ)) → 4 ≤ length array
+      → as-calls (tapes-in-c settings (zeroed array) store ts) ≡ tape-calls s store Open ts
+  pub closing-tapes : (array store answer : List ℕ) (ts : List (List ℕ)) → Long array answer 2
+      → close-tapes-in-c settings array store answer ts ≡ tape-run s store ts
   pub naming : (numbers store f answer : List ℕ) → Long numbers answer 5
       → (let l : Left = step-leaves settings numbers store f answer in Inside f (l .octets) (l .answer))
 
@@ -103,12 +108,15 @@ LossesInC settings s =
     (array answer : List ℕ) (fs : List (List ℕ)) → 3 ≤ length array → 6 ≤ length answer
     → read-in-c settings (reader-zeroed array) answer fs ≡ run-said s [] fs
 
--- Demand 3: no call of the judge is refused; the answer says pass exactly when some list is carried; and that list is handed over
+-- Demand 3: no call of the judge is refused; the answer says pass exactly when some list is carried; that list is handed over; and so it is
+-- in tapes, cut anywhere
 pub record JudgesInC (settings : List ℕ) (s : Settings) (array store answer : List ℕ) (fs : List (List ℕ)) : Type 0 where
   pub frames-accepted : All (λ n. n ≡ 0) (judge-in-c settings (zeroed array) store fs .refusals)
   pub close-accepted : close-in-c settings array store answer fs .refusal ≡ 0
   pub passes-exactly : (close-in-c settings array store answer fs .passes ≡ true) ↔ ((ps : List (List ℕ)) × Carries s fs ps)
   pub handed-over : (ps : List (List ℕ)) → Carries s fs ps → HandedOverInC settings s fs ps
+  pub tapes-accepted : (ts : List (List ℕ)) → CutInto s fs ts → All (λ n. n ≡ 0) (tapes-in-c settings (zeroed array) store ts .refusals)
+  pub tapes-close : (ts : List (List ℕ)) → CutInto s fs ts → close-tapes-in-c settings array store answer ts ≡ close-in-c settings array store answer fs
 
 abbrev pub Demand3InC : List ℕ → Settings → Type 0
 Demand3InC settings s =

@@ -6,26 +6,26 @@ use mathlib.Core.Bool.{true, false}
 use Prim.Native.Nat.{ℕ}
 use lib.ListN.{length, getD, drop}
 use Rattle.frames.specs.declared.Settings.{Settings}
-use Rattle.judge.specs.Calls.{frame-says, frame-call, close-says, close-call}
+use Rattle.judge.specs.Calls.{judge-says, Calling, close-says, close-call}
 use Rattle.judge.specs.declared.Judge.{Judge}
 use Rattle.judge.specs.declared.Judged.{Judged}
 use Rattle.judge.specs.declared.Closed.{Closed}
 use Rattle.arrays.specs.Arrays.{told, kept}
 use Rattle.exports.specs.Left.{left}
 use Rattle.exports.specs.Channel.{short, settings-of}
-use Rattle.exports.specs.Judging.{judge-of, judge-numbers, judge-leaves, close-numbers, close-leaves}
+use Rattle.exports.specs.Judging.{judge-of, judge-numbers, judging-leaves, close-numbers, close-leaves}
 
-module _ (settings numbers store frame : List ℕ) where
-  pub judge-short : short (length settings) (length numbers) 0 0 ≡ true → left 2 numbers store [] ≡ judge-leaves settings numbers store frame
-  unfolding judge-leaves
+module _ (call : Calling) (settings numbers store os : List ℕ) where
+  pub judge-short : short (length settings) (length numbers) 0 0 ≡ true → left 2 numbers store [] ≡ judging-leaves call settings numbers store os
+  unfolding judging-leaves
   judge-short t = rw t
 
-  pub judge-done : (s : Settings) (j : Judge) (r : Judged) {state numbers′ store′ : List ℕ}
+  pub judge-done : (s : Settings) (j : Judge) (r : Judged) {refusal : ℕ} {numbers′ store′ : List ℕ}
       → short (length settings) (length numbers) 0 0 ≡ false → s ≡ settings-of settings → j ≡ judge-of numbers
-      → frame-says r store′ ≡ frame-call s store j frame → state ≡ judge-numbers (r .next) → numbers′ ≡ kept (r .refusal) numbers state
-      → left (r .refusal) numbers′ store′ [] ≡ judge-leaves settings numbers store frame
-  unfolding judge-leaves
-  judge-done s j r t s-is j-is e state k = rw (t, ← s-is, ← j-is, ← e, k, state)
+      → judge-says r store′ ≡ call s store j os → refusal ≡ r .refusal → numbers′ ≡ kept (r .refusal) numbers (judge-numbers (r .next))
+      → left refusal numbers′ store′ [] ≡ judging-leaves call settings numbers store os
+  unfolding judging-leaves
+  judge-done s j r t s-is j-is e said k = rw (t, ← s-is, ← j-is, ← e, k, said)
 
 module _ (settings numbers store answer : List ℕ) where
   pub close-short : short (length settings) (length numbers) (length answer) 2 ≡ true

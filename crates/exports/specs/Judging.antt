@@ -5,7 +5,8 @@ use mathlib.Core.Bool.{not}
 use lib.ListN.{length, getD}
 use lib.Dec.{eqb}
 use Rattle.octets.specs.Basics.{pick}
-use Rattle.judge.specs.Calls.{FrameSaid, frame-call, CloseSaid, close-call}
+use Rattle.judge.specs.Calls.{JudgeSaid, Calling, frame-call, CloseSaid, close-call}
+use Rattle.judge.specs.Tapes.{tape-call}
 use Rattle.judge.specs.declared.Judge.{Judge}
 use Rattle.judge.specs.declared.Judge.the-variants.{Open, Sound, Faulty}
 use Rattle.arrays.specs.Arrays.{told, kept, count-of}
@@ -38,14 +39,21 @@ judge-with kind tally last held =
 abbrev pub judge-of : List ℕ → Judge
 judge-of ns = judge-with (getD ns 0 0) (count-of (getD ns 1 0)) (count-of (getD ns 2 0)) (getD ns 3 0)
 
--- ---- a frame
+-- ---- a frame, and a tape
 
-unfoldable pub judge-leaves : List ℕ → List ℕ → List ℕ → List ℕ → Left
-judge-leaves settings numbers store frame =
-    let a : FrameSaid = frame-call (settings-of settings) store (judge-of numbers) frame in
+-- either call, with the octets that are handed over
+unfoldable pub judging-leaves : Calling → List ℕ → List ℕ → List ℕ → List ℕ → Left
+judging-leaves call settings numbers store os =
+    let a : JudgeSaid = call (settings-of settings) store (judge-of numbers) os in
     pick (short (length settings) (length numbers) 0 0)
     (left 2 numbers store [])
     (left (a .refusal) (kept (a .refusal) numbers (judge-numbers (a .next))) (a .store) [])
+
+abbrev pub judge-leaves : List ℕ → List ℕ → List ℕ → List ℕ → Left
+judge-leaves = judging-leaves frame-call
+
+abbrev pub tape-leaves : List ℕ → List ℕ → List ℕ → List ℕ → Left
+tape-leaves = judging-leaves tape-call
 
 -- ---- the close
 

@@ -2,8 +2,9 @@
 ghost use mathlib.Core.Path.{_≡_};
 ghost use mathlib.Core.List.{[], _∷_};
 ghost use Rattle.judge.specs.Calls.{close-says};
+ghost use Rattle.arrays.specs.Arrays.{kept};
 ghost use Rattle.exports.specs.Left.{left};
-ghost use Rattle.exports.specs.Judging.{unjudged, judge-with, judge-of, judge-numbers, judge-leaves, close-numbers, close-leaves};
+ghost use Rattle.exports.specs.Judging.{unjudged, judge-with, judge-of, judge-numbers, judge-leaves, tape-leaves, close-numbers, close-leaves};
 use crate::channel::is_short;
 use crate::channel::settings_of;
 use crate::lent::ROOM;
@@ -13,6 +14,7 @@ use arrays::entry;
 use arrays::keep;
 use judge::Closed;
 use judge::Judge;
+use judge::Judged;
 
 // The entries of the answer.
 const VERDICT_ENTRIES: usize = 2;
@@ -72,6 +74,17 @@ fn judge_numbers(j: Judge) -> [u64; 4]
     }
 }
 
+// Writes the record that a call leaves, where it is not refused, and hands its refusal on.
+fn keep_judged(record: &mut [u64], judged: Judged) -> u64
+    ensures { λ r. ⌜ (r ≡ judged .refusal) × (now («record» .exit) ≡ kept (judged .refusal) (now («record» .entry)) (judge-numbers (judged .next))) ⌝ }
+{
+    let next = judged.next;
+    let refusal = judged.refusal as u64;
+    let state = judge_numbers(next);
+    keep(record, refusal, &state);
+    refusal
+}
+
 #[no_mangle]
 pub extern "C" fn itz_judge_frame(
     settings: &[u64],
@@ -85,11 +98,23 @@ pub extern "C" fn itz_judge_frame(
         return ROOM;
     }
     let judged = judge::frame(settings_of(settings), judge_of(record), store, frame);
-    let next = judged.next;
-    let refusal = judged.refusal as u64;
-    let state = judge_numbers(next);
-    keep(record, refusal, &state);
-    refusal
+    keep_judged(record, judged)
+}
+
+#[no_mangle]
+pub extern "C" fn itz_judge_tape(
+    settings: &[u64],
+    record: &mut [u64],
+    store: &mut [u8],
+    tape: &[u8],
+) -> u64
+    ensures { λ r. ⌜ left r (now («record» .exit)) (now (store .exit)) [] ≡ tape-leaves (now (settings .entry)) (now («record» .entry)) (now (store .entry)) (now (tape .entry)) ⌝ }
+{
+    if is_short(settings.len(), record.len(), 0, 0) {
+        return ROOM;
+    }
+    let judged = judge::tape(settings_of(settings), judge_of(record), store, tape);
+    keep_judged(record, judged)
 }
 
 // An answer's refusal, and the numbers behind it.

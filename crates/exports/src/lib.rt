@@ -16,6 +16,7 @@ pub use extract::itz_extractor_step;
 pub use extract::itz_show;
 pub use judging::itz_judge_close;
 pub use judging::itz_judge_frame;
+pub use judging::itz_judge_tape;
 pub use mux::itz_mux_begin;
 pub use mux::itz_mux_flush;
 pub use mux::itz_mux_idle;

@@ -1,9 +1,11 @@
 -- The frame of a packet channel: its settings, its header, its zone, and what it is refused for.
 use Prim.Native.Nat.{ℕ}
+use mathlib.Core.Path.{_≡_}
 use mathlib.Core.List.{List, _∷_}
 use mathlib.Core.Bool.{Bool, not}
+use lib.ListN.{length}
 use lib.Dec.{leb}
-use Rattle.octets.specs.Basics.{and, Row, row}
+use Rattle.octets.specs.Basics.{and, All, Row, row}
 use Rattle.words.specs.Fields.{read}
 use Rattle.words.specs.declared.Place.{Place}
 use Rattle.frames.specs.Edition.{replay-place, count-in, signals}
@@ -47,6 +49,10 @@ packet-shape s = record { link = s .link; size = s .zone; width = 11; beyond = s
 -- Z+8, and two more with a trailer
 unfoldable pub frame-length : Settings → ℕ
 frame-length s = shape-length (packet-shape s)
+
+-- frames that each have that length
+abbrev pub Frames : Settings → List (List ℕ) → Type 0
+Frames s fs = All (λ (f : List ℕ). length f ≡ frame-length s) fs
 
 unfoldable pub zone-of : Settings → List ℕ → List ℕ
 zone-of s f = shape-zone (packet-shape s) f

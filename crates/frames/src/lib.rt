@@ -13,6 +13,8 @@ pub mod bits;
 mod shape;
 mod signal;
 
+pub use shape::around;
+
 // The edition of the frame header that a link follows, which says what stands below the replay flag.
 pub enum Edition {
     // CCSDS 701.0-B-2: seven spare bits.

@@ -42,7 +42,7 @@ const CHANNEL: Place = Place {
 };
 
 // How many octets a frame has around its zone.
-fn around(l: Link) -> usize
+pub fn around(l: Link) -> usize
     ensures { λ r. ⌜ r ≡ around l ⌝ }
 {
     ZONE_AT + trailer::extra(l.trailed)

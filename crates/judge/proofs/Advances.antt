@@ -117,6 +117,11 @@ fault-before s store tally at e =
     let a = and-true (ltb at tally) _ e in
     (ltb-true at tally (a .0), leb-true tally most-frames (a .1))
 
+pub tally-most : (s : Settings) (store : List ℕ) (j : Judge) → judge-reachable s store j ≡ true → tally-of j ≤ most-frames
+tally-most s store Open reach = omega arith
+tally-most s store (Sound tally last held) reach = sound-reach s store tally last held reach .few
+tally-most s store (Faulty tally at) reach = fault-before s store tally at reach .1
+
 faulty-reachable : (s : Settings) (store : List ℕ) (tally at : ℕ) → at < tally → tally ≤ most-frames → judge-reachable s store (Faulty tally at) ≡ true
 unfolding judge-reachable counts-well reachable
 faulty-reachable s store tally at before few = and-both (lt-ltb at tally before) (le-leb tally most-frames few)
@@ -219,9 +224,9 @@ judge-advances s store Open f a =
       same-verdict = λ fs. judged-opened s store f fs ∙ k .same-verdict fs;
     })
 judge-advances s store (Sound tally last held) f a =
-    try-advances (sound-tries a) (sound-reach s store tally last held (a .reached) .short) f
+    try-advances (sound-tries a) (sound-reach s store tally last held (a .found .reached) .short) f
 judge-advances s store (Faulty tally at) f a = record {
-  reach = faulty-reachable s store (tally + 1) at (omega (arith, fault-before s store tally at (a .reached))) (omega (arith, a .few));
+  reach = faulty-reachable s store (tally + 1) at (omega (arith, fault-before s store tally at (a .found .reached))) (omega (arith, a .few));
   counted = refl;
   same-room = refl;
   beyond = refl;

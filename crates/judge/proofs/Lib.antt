@@ -1,5 +1,6 @@
 pub mod Accepting
 pub mod Advances
+pub mod Answered
 pub mod Endings
 pub mod Entering
 pub mod Faults
@@ -7,7 +8,9 @@ pub mod Opening
 pub mod Reaches
 pub mod Rows
 pub mod Runs
+pub mod Tapes
 pub mod Theorems
 pub mod Trying
 pub mod Verdicts
+pub mod Winding
 pub mod Determined

@@ -35,30 +35,32 @@ use Rattle.extractor.proofs.Reaches.{step-next, all-framed, outlasted-agrees, k
 use Rattle.extractor.proofs.Settles.{step-unrefused}
 use Rattle.extractor.proofs.Walked.{event-whole}
 use Rattle.judge.specs.Judge.{opened, is-fault, faulty-entry}
-use Rattle.judge.specs.Calls.{tally-of, counts-well, judge-reachable, frame-refusals, judging, faults-at, stepped-through, try-frame, judge-frame, answers-frame, FrameSaid, frame-call}
-use Rattle.judge.specs.Reach.{Reached, begins, judges, ReachesAll}
+use Rattle.judge.specs.Calls.{tally-of, counts-well, judge-reachable, judging, faults-at, stepped-through, try-frame, judge-frame, JudgeSaid, judge-answers, Calling}
+use Rattle.judge.specs.Statements.{Keeps}
+use Rattle.judge.specs.Reach.{Reached, begins, judges, plays, ReachesAll}
 use Rattle.judge.specs.declared.Judge.{Judge}
 use Rattle.judge.specs.declared.Judge.the-variants.{Open, Sound, Faulty}
-use Rattle.judge.proofs.Accepting.{Accepts, accepts}
-use Rattle.judge.proofs.Advances.{sound-reach, SoundReach, fault-before, judge-advances}
+use Rattle.judge.proofs.Accepting.{Accepts}
+use Rattle.judge.proofs.Advances.{sound-reach, SoundReach, fault-before}
 use Rattle.judge.proofs.Faults.{Enters, entered-faultless, step-kept}
 use Rattle.judge.proofs.Opening.{ready-on-wheel}
 use Rattle.judge.proofs.Runs.{frame-answered}
+use Rattle.judge.proofs.Theorems.{keeps-to-the-test}
 
 -- ---- what calls lead to passes the test
 
-judges-sound : (s : Settings) (store : List ℕ) (j : Judge) (f : List ℕ) → judge-reachable s store j ≡ true
-    → judge-reachable s (frame-call s store j f .store) (frame-call s store j f .next) ≡ true
-unfolding frame-call
-judges-sound s store j f reach =
-    test (eqb (first (frame-refusals s store j)) 0)
-    (λ t. rw t (judge-advances s store j f (accepts s store j (eqb-true (first (frame-refusals s store j)) 0 t)) .reach))
-    (λ t. rw t reach)
+call-sound : {call : Calling} → Keeps call → (s : Settings) (store : List ℕ) (j : Judge) (os : List ℕ) → judge-reachable s store j ≡ true
+    → judge-reachable s (call s store j os .store) (call s store j os .next) ≡ true
+call-sound {call} keeps s store j os reach =
+    test (eqb (call s store j os .refusal) 0)
+    (λ t. keeps .reached s store j os (eqb-true (call s store j os .refusal) 0 t))
+    (λ t. rw (keeps .refused s store j os (eqb-false (call s store j os .refusal) 0 t)) reach)
 
 reached-sound : {s : Settings} {j : Judge} {store : List ℕ} → Reached s j store → judge-reachable s store j ≡ true
 unfolding judge-reachable counts-well reachable
 reached-sound begins = refl
-reached-sound {s} (judges {j} {store} f small r) = judges-sound s store j f (reached-sound r)
+reached-sound {s} (judges {j} {store} f small r) = call-sound (keeps-to-the-test .frame) s store j f (reached-sound r)
+reached-sound {s} (plays {j} {store} t small r) = call-sound (keeps-to-the-test .tape) s store j t (reached-sound r)
 
 -- ---- the other way: frames that lead to a record
 
@@ -183,8 +185,8 @@ module _ (s : Settings) (store : List ℕ) (ok : in-range s ≡ true) (room : s 
 
   led-by : (j : Judge) {k : Judge} (f : List ℕ) → AllOctets f → tally-of j < most-frames → judge-frame s store j f ≡ judging k store → Led j → Led k
   led-by j f small-frame few e r =
-      let a : Accepts s store j = record { ranged = ok; room = room; reached = reached-sound r; few = few } in
-      subst (λ (w : FrameSaid). Reached s (w .next) (w .store)) (frame-answered f a ∙ ap (answers-frame 0) e) (judges f small-frame r)
+      let a : Accepts s store j = record { found = record { ranged = ok; room = room; reached = reached-sound r }; few = few } in
+      subst (λ (w : JudgeSaid). Reached s (w .next) (w .store)) (frame-answered f a ∙ ap (judge-answers 0) e) (judges f small-frame r)
 
   all-beginning : (c h : ℕ) → AllOctets (beginning c h)
   all-beginning c h =

@@ -6,12 +6,13 @@ use mathlib.Core.Bool.{Bool, true, false, not}
 use Prim.Native.Nat.{ℕ}
 use native.Mathlib.Omega.{arith}
 use lib.ListN.{length}
-use lib.Dec.{leb, ltb}
-use Rattle.octets.specs.Basics.{pick, and, first}
-use Rattle.frames.specs.Frame.{in-range, most-frames}
+use lib.Dec.{ltb}
+use Rattle.octets.specs.Basics.{pick, and, first, Row}
+use Rattle.frames.specs.Frame.{in-range}
 use Rattle.frames.specs.declared.Settings.{Settings}
-use Rattle.extractor.specs.Records.{reachable, checked}
-use Rattle.judge.specs.Calls.{tally-of, extractor-of, counts-well, judge-reachable, frame-refusals, close-rows}
+use Rattle.extractor.specs.Records.{reachable}
+use Rattle.extractor.specs.Records as extractor
+use Rattle.judge.specs.Calls.{extractor-of, counts-well, judge-reachable, checked, close-rows}
 use Rattle.judge.specs.declared.Judge.{Judge}
 
 abbrev three : Bool → Bool → Bool → ℕ → ℕ
@@ -45,7 +46,7 @@ module _ (s : Settings) (store : List ℕ) (j : Judge) where
 
   -- what the extractor's rows tell of the record that the judge goes on from
   abbrev pub holding : ℕ
-  holding = first (checked s (extractor-of j) store [])
+  holding = first (extractor.checked s (extractor-of j) store [])
 
   -- where they refuse, the judge does so by the same number
   pub refused-holding : (holding ≡ 0 → ⊥) → holding ≡ first (close-rows s store j)
@@ -60,12 +61,12 @@ module _ (s : Settings) (store : List ℕ) (j : Judge) where
       let passed = none (in-range s) short held-well (pick (not (counts-well s j)) 10 0) e in
       (passed .0, passed .1 ∙ both (in-range s) short held-well (counts-well s j))
 
-  -- the same of a frame's rows: its own stands below those of the close
-  module _ {r : ℕ} (e : r ≡ first (close-rows s store j)) where
-    pub refused-close : (r ≡ 0 → ⊥) → r ≡ first (frame-refusals s store j)
-    unfolding first close-rows frame-refusals
-    refused-close h = e ∙ some (in-range s) short (judge-reachable s store j) (pick (leb most-frames (tally-of j)) 11 0) (λ z. h (e ∙ z))
+  -- the same of any rows that stand below those of the close
+  module _ {r : ℕ} (e : r ≡ first (close-rows s store j)) (below : List Row) where
+    pub refused-close : (r ≡ 0 → ⊥) → r ≡ first (checked s store j below)
+    unfolding first close-rows
+    refused-close h = e ∙ some (in-range s) short (judge-reachable s store j) (first below) (λ z. h (e ∙ z))
 
-    pub accepted-close : r ≡ 0 → pick (leb most-frames (tally-of j)) 11 0 ≡ first (frame-refusals s store j)
-    unfolding first close-rows frame-refusals
-    accepted-close z = none (in-range s) short (judge-reachable s store j) (pick (leb most-frames (tally-of j)) 11 0) (sym e ∙ z) .1
+    pub accepted-close : r ≡ 0 → first below ≡ first (checked s store j below)
+    unfolding first close-rows
+    accepted-close z = none (in-range s) short (judge-reachable s store j) (first below) (sym e ∙ z) .1

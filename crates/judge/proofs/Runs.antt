@@ -8,7 +8,7 @@ use native.Mathlib.Nat.{zero-add}
 use native.Mathlib.Omega.{arith}
 use lib.ListN.{length, take, drop}
 use lib.Dec.{eqb}
-use borrow.Author.Tests.{le-ltb, lt-leb, ne-eqb}
+use borrow.Author.Tests.{le-ltb, ne-eqb}
 use Rattle.octets.specs.Basics.{pick, All, first}
 use Rattle.frames.specs.Frame.{in-range, most-frames}
 use Rattle.frames.specs.declared.Settings.{Settings}
@@ -16,10 +16,10 @@ use Rattle.extractor.specs.Records.{reachable, is-entered, stands-for}
 use Rattle.extractor.specs.declared.Extractor.the-variants.{InStep}
 use Rattle.extractor.proofs.Unrefused.{held-fits}
 use Rattle.judge.specs.Judge.{Verdict, pass, fault, close, judged, verdict}
-use Rattle.judge.specs.Calls.{tally-of, counts-well, judge-reachable, frame-refusals, close-rows, Judging, judge-frame, answers-frame, frame-call, judge-close, close-says, closes-with, close-call, RunCalls, judge-calls, judge-run}
+use Rattle.judge.specs.Calls.{tally-of, counts-well, judge-reachable, past-last, frame-refusals, close-rows, Judging, judge-frame, judge-answers, frame-call, judge-close, close-says, closes-with, close-call, RunCalls, calls, judge-calls, judge-run}
 use Rattle.judge.specs.declared.Judge.{Judge}
 use Rattle.judge.specs.declared.Judge.the-variants.{Open, Sound, Faulty}
-use Rattle.judge.proofs.Accepting.{Accepts}
+use Rattle.judge.proofs.Accepting.{checks-none, Accepts}
 use Rattle.judge.proofs.Advances.{sound-reach, verdict-from, judge-advances}
 
 -- ---- calls that are not refused
@@ -27,10 +27,10 @@ use Rattle.judge.proofs.Advances.{sound-reach, verdict-from, judge-adva
 pub frame-accepted : {s : Settings} {store : List ℕ} {j : Judge} → Accepts s store j → first (frame-refusals s store j) ≡ 0
 unfolding frame-refusals first
 frame-accepted {s} {store} {j} a =
-    rw (a .ranged, le-ltb (length store) (s .limit) (a .room), a .reached, lt-leb most-frames (tally-of j) (a .few))
+    checks-none (past-last j 1 ∷ []) (a .found) ∙ rw (le-ltb most-frames (tally-of j + 1) (omega (arith, a .few)))
 
 pub frame-answered : {s : Settings} {store : List ℕ} {j : Judge} (f : List ℕ) → Accepts s store j
-    → frame-call s store j f ≡ answers-frame 0 (judge-frame s store j f)
+    → frame-call s store j f ≡ judge-answers 0 (judge-frame s store j f)
 unfolding frame-call
 frame-answered f a = rw (frame-accepted a)
 
@@ -68,7 +68,7 @@ pub record Ran (s : Settings) (store : List ℕ) (tally : ℕ) (v : Verdict) (r 
 pub judge-ran : (s : Settings) (store : List ℕ) (j : Judge) (fs : List (List ℕ)) → in-range s ≡ true → s .limit ≤ length store
     → judge-reachable s store j ≡ true → tally-of j + length fs ≤ most-frames
     → Ran s store (tally-of j + length fs) (verdict-from s store j fs) (judge-calls s store j fs)
-unfolding judge-calls
+unfolding calls
 judge-ran s store j [] ok room reach few = record {
   unrefused = tt;
   reach = reach;
@@ -78,7 +78,7 @@ judge-ran s store j [] ok room reach few = record {
   comes-to = close-is-verdict s store j reach;
 }
 judge-ran s store j (f ∷ fs) ok room reach few =
-    let accepts : Accepts s store j = record { ranged = ok; room = room; reached = reach; few = omega arith } in
+    let accepts : Accepts s store j = record { found = record { ranged = ok; room = room; reached = reach }; few = omega arith } in
     let a = judge-advances s store j f accepts in
     let k : Judging = judge-frame s store j f in
     let r = judge-ran s (k .store) (k .next) fs ok (omega (arith, a .same-room)) (a .reach) (omega (arith, a .counted)) in

@@ -51,9 +51,13 @@ checked s store j rows =
     ∷ row 10 (not (judge-reachable s store j))
     ∷ rows
 
+-- so many frames more pass the last that a run may have
+abbrev pub past-last : Judge → ℕ → Row
+past-last j more = row 11 (ltb most-frames (tally-of j + more))
+
 -- what a frame is refused for, in order; what is wrong with the frame itself is a fault
 unfoldable pub frame-refusals : Settings → List ℕ → Judge → List Row
-frame-refusals s store j = checked s store j (row 11 (leb most-frames (tally-of j)) ∷ [])
+frame-refusals s store j = checked s store j (past-last j 1 ∷ [])
 
 -- what closing is refused for, in order
 unfoldable pub close-rows : Settings → List ℕ → Judge → List Row
@@ -90,23 +94,31 @@ judge-frame s store Open f = try-frame s 0 opened store f
 judge-frame s store (Sound tally last held) f = try-frame s tally (stands-for store (InStep last held)) store f
 judge-frame s store (Faulty tally at) f = judging (Faulty (tally + 1) at) store
 
--- what a call with a frame answers, with the record and the store that it leaves
-pub record FrameSaid : Type 0 where
+-- what a call with a frame or a tape answers, with the record and the store that it leaves
+pub record JudgeSaid : Type 0 where
   pub refusal : ℕ
   pub next : Judge
   pub store : List ℕ
 
-abbrev pub answers-frame : ℕ → Judging → FrameSaid
-answers-frame n k = record { refusal = n; next = k .next; store = k .store }
+abbrev pub judge-answers : ℕ → Judging → JudgeSaid
+judge-answers n k = record { refusal = n; next = k .next; store = k .store }
 
-abbrev pub frame-says : Judged → List ℕ → FrameSaid
-frame-says r store = answers-frame (r .refusal) (judging (r .next) store)
+abbrev pub judge-says : Judged → List ℕ → JudgeSaid
+judge-says r store = judge-answers (r .refusal) (judging (r .next) store)
 
--- what the rules give: a refusal leaves record and store as they were
-unfoldable pub frame-call : Settings → List ℕ → Judge → List ℕ → FrameSaid
-frame-call s store j f =
-    let n : ℕ = first (frame-refusals s store j) in
-    pick (eqb n 0) (answers-frame 0 (judge-frame s store j f)) (answers-frame n (judging j store))
+-- a refusal, which leaves record and store as they were, or what a call leaves that no row refuses
+abbrev pub unless-refused : List Row → List ℕ → Judge → Judging → JudgeSaid
+unless-refused rows store j k =
+    let n : ℕ = first rows in
+    pick (eqb n 0) (judge-answers 0 k) (judge-answers n (judging j store))
+
+-- a kind of call: over settings, store and record, and the octets that are handed over
+abbrev pub Calling : Type 0
+Calling = Settings → List ℕ → Judge → List ℕ → JudgeSaid
+
+-- what the rules give
+unfoldable pub frame-call : Calling
+frame-call s store j f = unless-refused (frame-refusals s store j) store j (judge-frame s store j f)
 
 -- ---- the close
 
@@ -142,21 +154,28 @@ close-call s store j =
 
 -- ---- a run
 
--- the calls with its frames, one after another, record and store handed on: what each was refused for, and what they leave
+-- calls one after another, record and store handed on: what each was refused for, and what they leave
 pub record RunCalls : Type 0 where
   pub refusals : List ℕ
   pub next : Judge
   pub store : List ℕ
 
-unfoldable pub judge-calls : Settings → List ℕ → Judge → List (List ℕ) → RunCalls
-judge-calls s store j [] = record { refusals = []; next = j; store = store }
-judge-calls s store j (f ∷ fs) =
-    let a : FrameSaid = frame-call s store j f in
-    let r : RunCalls = judge-calls s (a .store) (a .next) fs in
+unfoldable pub calls : Calling → Settings → List ℕ → Judge → List (List ℕ) → RunCalls
+calls call s store j [] = record { refusals = []; next = j; store = store }
+calls call s store j (f ∷ fs) =
+    let a : JudgeSaid = call s store j f in
+    let r : RunCalls = calls call s (a .store) (a .next) fs in
     record { refusals = a .refusal ∷ r .refusals; next = r .next; store = r .store }
 
--- a whole run, from nothing to its close
-abbrev pub judge-run : Settings → List ℕ → List (List ℕ) → CloseSaid
-judge-run s store fs =
-    let r : RunCalls = judge-calls s store Open fs in
+-- with each frame
+abbrev pub judge-calls : Settings → List ℕ → Judge → List (List ℕ) → RunCalls
+judge-calls = calls frame-call
+
+-- from nothing to the close
+abbrev pub run-by : Calling → Settings → List ℕ → List (List ℕ) → CloseSaid
+run-by call s store fs =
+    let r : RunCalls = calls call s store Open fs in
     close-call s (r .store) (r .next)
+
+abbrev pub judge-run : Settings → List ℕ → List (List ℕ) → CloseSaid
+judge-run = run-by frame-call

@@ -8,14 +8,17 @@ use Rattle.octets.specs.Basics.{AllOctets}
 use Rattle.frames.specs.declared.Settings.{Settings}
 use Rattle.extractor.specs.Statements.{Fit}
 use Rattle.judge.specs.Calls.{judge-reachable, frame-call}
+use Rattle.judge.specs.Tapes.{tape-call}
 use Rattle.judge.specs.declared.Judge.{Judge}
 use Rattle.judge.specs.declared.Judge.the-variants.{Open}
 
--- any calls, from nothing on, refused or not, with any frames, record and store handed on
+-- any calls, from nothing on, refused or not, with any frames and any tapes, record and store handed on
 pub data Reached (s : Settings) : Judge → List ℕ → Type 0 where
   begins : {store : List ℕ} → Reached s Open store
   judges : {j : Judge} {store : List ℕ} (f : List ℕ) → AllOctets f → Reached s j store
       → Reached s (frame-call s store j f .next) (frame-call s store j f .store)
+  plays : {j : Judge} {store : List ℕ} (t : List ℕ) → AllOctets t → Reached s j store
+      → Reached s (tape-call s store j t .next) (tape-call s store j t .store)
 
 -- Calls lead exactly to the records that pass the test for refusal 10. A judge's record stands between frames, so that no zone
 -- need go on with what it holds.

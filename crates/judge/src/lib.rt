@@ -1,10 +1,11 @@
-// The judge of a recorded run: one whole frame at a time, and a verdict at the close.
+// The judge of a recorded run: one whole frame at a time or any number of them end to end, and a verdict at the close.
 ghost use mathlib.Core.Path.{_≡_};
-ghost use Rattle.judge.specs.Calls.{frame-says, frame-call, close-says, close-call};
-use frames::MOST_FRAMES;
+ghost use Rattle.judge.specs.Calls.{judge-says, frame-call, close-says, close-call};
+ghost use Rattle.judge.specs.Tapes.{tape-call};
 use frames::Settings;
 use octets::refusals;
 
+mod playing;
 mod record;
 mod trial;
 
@@ -18,7 +19,7 @@ pub enum Judge {
     Faulty { tally: u32, at: u32 },
 }
 
-// What a frame is refused for, 0 where it is not, and the record after it.
+// What a frame or a tape is refused for, 0 where it is not, and the record after it.
 pub struct Judged {
     pub refusal: u8,
     pub next: Judge,
@@ -35,19 +36,44 @@ pub enum Closed {
 
 // One whole frame of the run. Up to the first fault the store changes as the extractor's steps change it.
 pub fn frame(s: Settings, j: Judge, store: &mut [u8], frame: &[u8]) -> Judged
-    ensures { λ r. ⌜ frame-says r (now (store .exit)) ≡ frame-call s (now (store .entry)) j (now (frame .entry)) ⌝ }
+    ensures { λ r. ⌜ judge-says r (now (store .exit)) ≡ frame-call s (now (store .entry)) j (now (frame .entry)) ⌝ }
 {
     let refusal = record::refusal(s, j, store);
     if refusal != 0 {
         return Judged { refusal, next: j };
     }
-    if MOST_FRAMES <= record::tally_of(j) {
+    if record::is_past_last(j, 1) {
         return Judged {
             refusal: refusals::FRAMES,
             next: j,
         };
     }
     let next = trial::judged(s, j, store, frame);
+    Judged { refusal: 0, next }
+}
+
+// Frames that lie end to end, none included: as one after the other in single calls. A refusal takes none of them.
+pub fn tape(s: Settings, j: Judge, store: &mut [u8], tape: &[u8]) -> Judged
+    ensures { λ r. ⌜ judge-says r (now (store .exit)) ≡ tape-call s (now (store .entry)) j (now (tape .entry)) ⌝ }
+{
+    let refusal = record::refusal(s, j, store);
+    if refusal != 0 {
+        return Judged { refusal, next: j };
+    }
+    let size = s.zone + frames::around(s.link);
+    if record::is_past_last(j, tape.len() / size) {
+        return Judged {
+            refusal: refusals::FRAMES,
+            next: j,
+        };
+    }
+    if tape.len() % size != 0 {
+        return Judged {
+            refusal: refusals::LENGTH,
+            next: j,
+        };
+    }
+    let next = playing::played(s, j, size, store, tape);
     Judged { refusal: 0, next }
 }
 

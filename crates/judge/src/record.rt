@@ -2,8 +2,9 @@
 ghost use mathlib.Core.Path.{_≡_};
 ghost use mathlib.Core.Bool.{true};
 ghost use Rattle.octets.specs.Basics.{first};
-ghost use Rattle.frames.specs.Frame.{in-range};
-ghost use Rattle.judge.specs.Calls.{tally-of, counts-well, extractor-of, close-rows, judge-close, closes-with};
+ghost use Prim.Native.Nat.{_≤_};
+ghost use Rattle.frames.specs.Frame.{in-range, most-frames};
+ghost use Rattle.judge.specs.Calls.{tally-of, past-last, counts-well, extractor-of, close-rows, judge-close, closes-with};
 use crate::Closed;
 use crate::Judge;
 use extractor::Extractor;
@@ -20,6 +21,14 @@ pub(crate) fn tally_of(j: Judge) -> u32
         Judge::Sound { tally, .. } => tally,
         Judge::Faulty { tally, .. } => tally,
     }
+}
+
+// Whether so many frames more pass the last that a run may have.
+pub(crate) fn is_past_last(j: Judge, more: usize) -> bool
+    requires { ⌜ tally-of j ≤ most-frames ⌝ }
+    ensures { λ r. ⌜ r ≡ past-last j more .holds ⌝ }
+{
+    ((MOST_FRAMES - tally_of(j)) as usize) < more
 }
 
 // Whether its numbers can be those of a run.

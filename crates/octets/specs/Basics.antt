@@ -43,6 +43,11 @@ octets (suc k) n = n / 256 ^ k % 256 ∷ octets k n
 unfoldable pub part : ℕ → ℕ → List ℕ → List ℕ
 part from to os = take (to - from) (drop from os)
 
+-- the first n parts of `size` octets each, which lie end to end
+unfoldable pub cut : ℕ → ℕ → List ℕ → List (List ℕ)
+cut zero size os = []
+cut (suc n) size os = take size os ∷ cut n size (drop size os)
+
 -- `os` written over `buffer` from `at` on
 unfoldable pub over : List ℕ → ℕ → List ℕ → List ℕ
 over buffer at os = take at buffer ++ (os ++ drop (at + length os) buffer)

@@ -6,7 +6,7 @@ pub const SETTING: u8 = 1;
 // A lent buffer is too short.
 pub const ROOM: u8 = 2;
 
-// A frame to be read does not have exactly its length.
+// A frame to be read does not have exactly its length, or a tape that of whole frames.
 pub const LENGTH: u8 = 3;
 
 // The frame's version is not 01.
@@ -30,7 +30,7 @@ pub const MOMENT: u8 = 9;
 // The record, or the octets held, are none that calls lead to.
 pub const RECORD: u8 = 10;
 
-// A frame is beyond the last that a run can have.
+// A frame, alone or in a tape, is beyond the last that a run can have.
 pub const FRAMES: u8 = 11;
 
 // A relay table has too many entries, an APID that no entry has, or the same entry twice.

@@ -7,8 +7,8 @@ use mathlib.Core.Bool.{Bool, true, false, not}
 use mathlib.Core.Option.{Option, none, some}
 use lib.ListN.{length, take, drop, getD}
 use lib.Dec.{leb, eqb}
-use Rattle.octets.specs.Basics.{pick, and, All, octets, number-at}
-use Rattle.frames.specs.Frame.{in-range, frame-length, most-frames}
+use Rattle.octets.specs.Basics.{pick, and, octets, number-at}
+use Rattle.frames.specs.Frame.{in-range, frame-length, Frames, most-frames}
 use Rattle.frames.specs.Edition.{is-former}
 use Rattle.frames.specs.declared.Edition.the-variants.{Former}
 use Rattle.frames.specs.declared.Link.{Link}
@@ -97,7 +97,7 @@ reading os =
 pub record Recorded (s : Settings) (fs : List (List ℕ)) : Type 0 where
   pub settings-fit : fits s ≡ true
   pub no-fill : s .fill ≡ 0
-  pub frames-whole : All (λ (f : List ℕ). length f ≡ frame-length s) fs
+  pub frames-whole : Frames s fs
   pub frames-most : length fs ≤ most-frames
 
 unfoldable pub setup-octets : Settings → List ℕ

@@ -1,14 +1,14 @@
 -- A judge's run of C calls is the library's run.
 -- Assumes nothing.
-use mathlib.Core.Path.{_≡_, refl, ap, _∙_}
+use mathlib.Core.Path.{_≡_, refl, sym, ap, _∙_}
 use mathlib.Core.List.{List, [], _∷_}
 use mathlib.Core.Bool.{true}
 use Prim.Native.Nat.{ℕ, _*_, _≤_, _<_, _^_}
 use native.Mathlib.Omega.{arith}
 use lib.ListN.{length}
 use lib.Dec.{leb, ltb, eqb}
-use borrow.Author.Tests.{leb-true, ltb-true, eqb-true}
-use Rattle.octets.specs.Basics.{and, first}
+use borrow.Author.Tests.{leb-true, ltb-true, eqb-true, eqb-false}
+use Rattle.octets.specs.Basics.{and}
 use Rattle.octets.proofs.Choices.{and-true}
 use Rattle.octets.proofs.Tests.{test}
 use Rattle.frames.specs.Link.{count-width}
@@ -16,19 +16,19 @@ use Rattle.frames.proofs.Wheel.{wheel-in-word}
 use Rattle.frames.specs.Frame.{most-frames}
 use Rattle.frames.specs.declared.Settings.{Settings}
 use Rattle.extractor.specs.Records.{on-wheel, reachable, holds-well}
-use Rattle.judge.specs.Calls.{counts-well, judge-reachable, frame-refusals, judge-frame, FrameSaid, frame-call, close-says, close-call, RunCalls, judge-calls, judge-run}
+use Rattle.judge.specs.Calls.{counts-well, judge-reachable, JudgeSaid, Calling, close-says, close-call, RunCalls, calls, run-by}
+use Rattle.judge.specs.Statements.{Keeps}
 use Rattle.judge.specs.declared.Judge.{Judge}
 use Rattle.judge.specs.declared.Judge.the-variants.{Open, Sound, Faulty}
 use Rattle.judge.specs.declared.Closed.{Closed}
-use Rattle.judge.proofs.Theorems.{keeps-to-the-test}
 use Rattle.arrays.specs.Arrays.{told, kept}
 use Rattle.exports.specs.Left.{Left, left}
 use Rattle.exports.specs.Channel.{settings-numbers, settings-of}
-use Rattle.exports.specs.Judging.{judge-of, judge-numbers, judge-leaves, close-numbers, close-leaves}
+use Rattle.exports.specs.Judging.{judge-of, judge-numbers, judging-leaves, close-numbers, close-leaves}
 use Rattle.exports.specs.Statements.{JudgeWords}
 use Rattle.exports.proofs.Theorems.{stated-again}
 use Rattle.demands.specs.OverC.Listening.{zeroed}
-use Rattle.demands.specs.OverC.Judging.{JudgingInC, as-calls, judge-in-c, read-verdict, close-in-c}
+use Rattle.demands.specs.OverC.Judging.{JudgingInC, as-calls, calls-in-c, read-verdict, closes-in-c}
 use Rattle.demands.proofs.OverC.Arrays.{long-enough, told-front, told-long, kept-long}
 
 -- a record that passes the test for refusal 10 has numbers of 32 bits
@@ -58,70 +58,66 @@ record Follows (r : JudgingInC) (q : RunCalls) : Type 0 where
   same : as-calls r ≡ q
   long : 4 ≤ length (r .numbers)
 
-module _ (settings : List ℕ) (stated : settings-numbers ≤ length settings) where
+module _ (call : Calling) (keeps : Keeps call) (settings : List ℕ) (stated : settings-numbers ≤ length settings) where
   abbrev s : Settings
   s = settings-of settings
 
-  -- what is said of a frame, and the record's array after it
-  abbrev said : List ℕ → List ℕ → List ℕ → FrameSaid
-  said numbers store f = frame-call s store (judge-of numbers) f
+  -- what is said by a call, and the record's array after it
+  abbrev said : List ℕ → List ℕ → List ℕ → JudgeSaid
+  said numbers store f = call s store (judge-of numbers) f
 
   abbrev next : List ℕ → List ℕ → List ℕ → List ℕ
   next numbers store f = kept (said numbers store f .refusal) numbers (judge-numbers (said numbers store f .next))
 
   module _ (numbers store f : List ℕ) (long : 4 ≤ length numbers) where
-    frame-left : judge-leaves settings numbers store f
+    call-left : judging-leaves call settings numbers store f
         ≡ left (said numbers store f .refusal) (next numbers store f) (said numbers store f .store) []
-    unfolding judge-leaves
-    frame-left = rw (long-enough settings numbers [] 0 stated long (omega arith)) refl
+    unfolding judging-leaves
+    call-left = rw (long-enough settings numbers [] 0 stated long (omega arith)) refl
 
     states-next : judge-of (next numbers store f) ≡ said numbers store f .next
-    unfolding frame-call
     states-next =
         let j : Judge = judge-of numbers in
-        let n : ℕ = first (frame-refusals s store j) in
-        test (eqb n 0)
-        (λ t.
-        let a = keeps-to-the-test .judging s store j f (eqb-true n 0 t) in
-        rw t
-        (stated-again numbers .judge (judge-frame s store j f .next) long (judge-words s (judge-frame s store j f .store) _ (rw t at a))))
-        (λ t. rw (t, t) refl)
+        let a : JudgeSaid = call s store j f in
+        test (eqb (a .refusal) 0)
+        (λ t. rw t (stated-again numbers .judge (a .next) long (judge-words s (a .store) (a .next) (keeps .reached s store j f (eqb-true (a .refusal) 0 t)))))
+        (λ t. rw t (sym (ap (λ (b : JudgeSaid). b .next) (keeps .refused s store j f (eqb-false (a .refusal) 0 t)))))
 
     long-next : 4 ≤ length (next numbers store f)
     long-next = rw (kept-long (said numbers store f .refusal) numbers (judge-numbers (said numbers store f .next))) long
 
-  -- ---- the frames
+  -- ---- the calls
 
   abbrev Judged : List (List ℕ) → Type 0
   Judged fs =
       (numbers store : List ℕ) → 4 ≤ length numbers
-      → Follows (judge-in-c settings numbers store fs) (judge-calls s store (judge-of numbers) fs)
+      → Follows (calls-in-c call settings numbers store fs) (calls call s store (judge-of numbers) fs)
 
   none-judged : Judged []
-  unfolding judge-in-c judge-calls
+  unfolding calls-in-c calls
   none-judged numbers store long = record { same = refl; long = long }
 
-  -- what a call left is lent with the other frames
+  -- what a call left is lent with the others
   abbrev before : Left → List (List ℕ) → JudgingInC
   before l fs =
-      let r : JudgingInC = judge-in-c settings (l .numbers) (l .octets) fs in
+      let r : JudgingInC = calls-in-c call settings (l .numbers) (l .octets) fs in
       record { refusals = l .refusal ∷ r .refusals; numbers = r .numbers; store = r .store }
 
   one-before : (f : List ℕ) (fs : List (List ℕ)) (numbers store : List ℕ) → 4 ≤ length numbers
-      → judge-in-c settings numbers store (f ∷ fs)
+      → calls-in-c call settings numbers store (f ∷ fs)
       ≡ before (left (said numbers store f .refusal) (next numbers store f) (said numbers store f .store) []) fs
-  unfolding judge-in-c
-  one-before f fs numbers store long = ap (λ (l : Left). before l fs) (frame-left numbers store f long)
+  unfolding calls-in-c
+  one-before f fs numbers store long = ap (λ (l : Left). before l fs) (call-left numbers store f long)
 
   one-judged : (f : List ℕ) (fs : List (List ℕ)) → Judged fs → Judged (f ∷ fs)
-  unfolding judge-calls
+  unfolding calls
   one-judged f fs on numbers store long =
-      let a : FrameSaid = said numbers store f in
+      let a : JudgeSaid = said numbers store f in
       let rest = on (next numbers store f) (a .store) (long-next numbers store f long) in
       rw (one-before f fs numbers store long)
       (record {
         same = ap (λ (r : RunCalls). record { refusals = a .refusal ∷ r .refusals; next = r .next; store = r .store })
-            (rest .same ∙ ap (λ (j : Judge). judge-calls s (a .store) j fs) (states-next numbers store f long));
+            (rest .same ∙ ap (λ (j : Judge). calls call s (a .store) j fs) (states-next numbers store f long));
         long = rest .long;
       })
 
@@ -143,14 +139,14 @@ module _ (settings : List ℕ) (stated : settings-numbers ≤ length settings) w
     unfolding judge-numbers
     opens = stated-again array .judge Open long tt
 
-    run-follows : Follows (judge-in-c settings (zeroed array) store fs) (judge-calls s store Open fs)
+    run-follows : Follows (calls-in-c call settings (zeroed array) store fs) (calls call s store Open fs)
     run-follows = rw (← opens) (all-judged fs (zeroed array) store (rw (told-long array (0 ∷ 0 ∷ 0 ∷ 0 ∷ [])) long))
 
-    pub judges-in-c : as-calls (judge-in-c settings (zeroed array) store fs) ≡ judge-calls s store Open fs
-    judges-in-c = run-follows .same
+    pub judged-in-c : as-calls (calls-in-c call settings (zeroed array) store fs) ≡ calls call s store Open fs
+    judged-in-c = run-follows .same
 
-    pub closes-in-c : (answer : List ℕ) → 2 ≤ length answer → close-in-c settings array store answer fs ≡ judge-run s store fs
-    closes-in-c answer h =
-        let r : JudgingInC = judge-in-c settings (zeroed array) store fs in
+    pub closed-in-c : (answer : List ℕ) → 2 ≤ length answer → closes-in-c call settings array store answer fs ≡ run-by call s store fs
+    closed-in-c answer h =
+        let r : JudgingInC = calls-in-c call settings (zeroed array) store fs in
         closes (r .numbers) (r .store) answer (run-follows .long) h
-        ∙ ap (λ (q : RunCalls). close-call s (q .store) (q .next)) judges-in-c
+        ∙ ap (λ (q : RunCalls). close-call s (q .store) (q .next)) judged-in-c

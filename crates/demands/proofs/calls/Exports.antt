@@ -76,6 +76,7 @@ of-exports = record {
   extractor-step = λ κs settings array store frame answer. each;
   show = λ κs step frame store answer. answer-alone;
   judge-frame = λ κs settings array store frame. no-answer;
+  judge-tape = λ κs settings array store tape. no-answer;
   judge-close = λ κs settings array store answer. answer-alone;
   bits-write = λ κs settings array bits n frame. no-answer;
   bits-read = λ κs settings array frame answer. no-octets;

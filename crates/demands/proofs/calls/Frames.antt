@@ -23,6 +23,7 @@ pub of-frames : OfFrames
 unfolding heading bit-heading
 of-frames = record {
   in-range = λ s. exactly;
+  around = λ l. exactly;
   has-length = λ s len. exactly;
   is-short = λ s len. exactly;
   wheel-of = λ l. exactly;

@@ -1,7 +1,7 @@
 -- A refused call of the C interface leaves its record's array and its octets as they were lent.
 -- Assumes nothing.
 use Prim.Native.Nat.{ℕ, _/_, _%_}
-use mathlib.Core.Path.{_≡_, refl}
+use mathlib.Core.Path.{_≡_, refl, ap}
 use mathlib.Core.List.{List}
 use lib.ListN.{length}
 use mathlib.Core.Bool.{not}
@@ -23,8 +23,9 @@ use Rattle.multiplexer.specs.declared.Mux.{Mux}
 use Rattle.extractor.specs.Records.{step-rows, step-call}
 use Rattle.extractor.specs.Answers.{enter-answer, step-answer}
 use Rattle.extractor.specs.declared.Extractor.{Extractor}
-use Rattle.judge.specs.Calls.{frame-refusals, frame-call}
-use Rattle.judge.specs.declared.Judge.{Judge}
+use Rattle.judge.specs.Calls.{JudgeSaid, Calling}
+use Rattle.judge.specs.Statements as judge
+use Rattle.judge.proofs.Theorems.{keeps-to-the-test}
 use Rattle.bitstream.specs.Bitstream.{write-rows, written, reading}
 use Rattle.bitstream.specs.declared.Writer.{Writer}
 use Rattle.exports.specs.Channel.{short, settings-of}
@@ -32,11 +33,11 @@ use Rattle.exports.specs.Packet.{wrap-leaves}
 use Rattle.exports.specs.Spaces.{header-of, write-space-leaves}
 use Rattle.exports.specs.Mux.{mux-of, mux-leaves}
 use Rattle.exports.specs.Extract.{extractor-of, enter-leaves, step-leaves}
-use Rattle.exports.specs.Judging.{judge-of, judge-leaves}
+use Rattle.exports.specs.Judging.{judge-of, judging-leaves}
 use Rattle.exports.specs.Bits.{bits-short, bit-settings-of, writer-of, write-leaves, reader-of, read-leaves}
 use Rattle.exports.specs.Relaying.{table-of, wide, load-leaves, route-leaves}
 use Rattle.exports.specs.Relaying as relaying
-use Rattle.demands.specs.calls.Exports.{RefusedKeep}
+use Rattle.demands.specs.calls.Exports.{Keeps, RefusedKeep}
 use Rattle.demands.proofs.calls.Extractor.{unrefused}
 
 -- ---- what the library's own calls keep
@@ -50,10 +51,6 @@ step-kept : (s : Settings) (x : Extractor) (store f : List ℕ) → (step-answer
 unfolding step-answer step-call
 step-kept s x store f h =
     test (eqb (first (step-rows s x store f)) 0) (λ t. absurd (h (rw t (unrefused s f store x)))) (λ t. rw t refl)
-
-judged-kept : (s : Settings) (store : List ℕ) (j : Judge) (f : List ℕ) → (frame-call s store j f .refusal ≡ 0 → ⊥) → frame-call s store j f .store ≡ store
-unfolding frame-call
-judged-kept s store j f h = test (eqb (first (frame-refusals s store j)) 0) (λ t. absurd (h (rw t refl))) (λ t. rw t refl)
 
 written-kept : (s : BitSettings) (w : Writer) (bits : List ℕ) (n : ℕ) (frame : List ℕ) → (written s w bits n frame .said .refusal ≡ 0 → ⊥)
     → written s w bits n frame .frame ≡ frame
@@ -79,8 +76,15 @@ routed-kept limit t p output h =
 
 -- ---- and what is left of them in arrays
 
+judged-kept : {call : Calling} → judge.Keeps call → (settings numbers store os : List ℕ) → Keeps (judging-leaves call settings numbers store os) numbers store
+unfolding judging-leaves
+judged-kept {call} keeps settings numbers store os =
+    let a : JudgeSaid = call (settings-of settings) store (judge-of numbers) os in
+    test (short (length settings) (length numbers) 0 0) (λ t. rw t (λ h. (refl, refl)))
+    (λ t. rw t (λ h. (rw (ne-eqb (a .refusal) 0 h) refl, ap (λ (b : JudgeSaid). b .store) (keeps .refused (settings-of settings) store (judge-of numbers) os h))))
+
 pub refused-keep : RefusedKeep
-unfolding mux-leaves enter-leaves step-leaves judge-leaves write-leaves read-leaves wrap-leaves write-space-leaves load-leaves route-leaves
+unfolding mux-leaves enter-leaves step-leaves write-leaves read-leaves wrap-leaves write-space-leaves load-leaves route-leaves
 refused-keep = record {
   mux = λ call room said settings numbers frame array.
       let a = answer (settings-of settings) (mux-of numbers) call frame in
@@ -94,10 +98,8 @@ refused-keep = record {
       let a = step-answer (settings-of settings) (extractor-of numbers) store frame in
       test (short (length settings) (length numbers) (length array) 5) (λ t. rw t (λ h. (refl, refl)))
       (λ t. rw t (λ h. (rw (ne-eqb (a .answer .refusal) 0 h) refl, step-kept (settings-of settings) (extractor-of numbers) store frame h)));
-  judge = λ settings numbers store frame.
-      let a = frame-call (settings-of settings) store (judge-of numbers) frame in
-      test (short (length settings) (length numbers) 0 0) (λ t. rw t (λ h. (refl, refl)))
-      (λ t. rw t (λ h. (rw (ne-eqb (a .refusal) 0 h) refl, judged-kept (settings-of settings) store (judge-of numbers) frame h)));
+  judge = judged-kept (keeps-to-the-test .frame);
+  tape = judged-kept (keeps-to-the-test .tape);
   bits-written = λ settings numbers bits n frame.
       let a = written (bit-settings-of settings) (writer-of numbers) bits n frame in
       test (bits-short (length settings) (length numbers) 1 0 0) (λ t. rw t (λ h. (refl, refl)))

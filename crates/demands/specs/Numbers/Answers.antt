@@ -22,7 +22,7 @@ use Rattle.extractor.specs.Calls.{spends-to, spend-says}
 use Rattle.extractor.specs.declared.Extractor.the-variants.{Walking}
 use Rattle.extractor.specs.declared.Entered.{Entered}
 use Rattle.extractor.specs.declared.Found.{Found}
-use Rattle.judge.specs.Calls.{close-says, frame-says}
+use Rattle.judge.specs.Calls.{close-says, judge-says}
 use Rattle.judge.specs.declared.Judge.the-variants.{Faulty}
 use Rattle.judge.specs.declared.Closed.{Closed}
 use Rattle.bitstream.specs.Bitstream.{wrote}
@@ -96,7 +96,7 @@ pub record Together : Type 0 where
       ≡ record { answer = found 9 0 0 0 0 []; next = Walking 1 2 3; store = 4 ∷ 5 ∷ 6 ∷ [] }
   pub spending : spend-says (record { refusal = 9; next = Walking 1 2 3 }) (7 ∷ []) ≡ record { refusal = 9; next = Walking 1 2 3; store = 7 ∷ [] }
   pub spent : spends-to 9 (Walking 1 2 3) (7 ∷ []) ≡ record { refusal = 9; next = Walking 1 2 3; store = 7 ∷ [] }
-  pub judging : frame-says (record { refusal = 11; next = Faulty 2 1 }) (7 ∷ []) ≡ record { refusal = 11; next = Faulty 2 1; store = 7 ∷ [] }
+  pub judging : judge-says (record { refusal = 11; next = Faulty 2 1 }) (7 ∷ []) ≡ record { refusal = 11; next = Faulty 2 1; store = 7 ∷ [] }
   pub writing-bits : wrote (record { refusal = 10; writer = record { count = 5 } }) (7 ∷ []) ≡ record { said = record { refusal = 10; writer = record { count = 5 } }; frame = 7 ∷ [] }
   pub writing-space : space-writes 1 (7 ∷ []) ≡ record { refusal = 1; output = 7 ∷ [] }
   pub in-c : left 1 (2 ∷ []) (3 ∷ []) (4 ∷ []) ≡ record { refusal = 1; numbers = 2 ∷ []; octets = 3 ∷ []; answer = 4 ∷ [] }

@@ -10,7 +10,7 @@ use Rattle.exports.specs.Packet.{header-leaves, formed-leaves, wrap-leaves, unw
 use Rattle.exports.specs.Spaces.{read-space-leaves, write-space-leaves}
 use Rattle.exports.specs.Mux.{put-numbers, flush-numbers, no-numbers, begin-leaves, mux-leaves}
 use Rattle.exports.specs.Extract.{enter-leaves, step-leaves, show-leaves}
-use Rattle.exports.specs.Judging.{judge-leaves, close-leaves}
+use Rattle.exports.specs.Judging.{judge-leaves, tape-leaves, close-leaves}
 use Rattle.exports.specs.Bits.{bit-settings-of, write-leaves, read-leaves}
 use Rattle.exports.specs.Relaying.{load-leaves, route-leaves}
 use Rattle.demands.specs.Numbers.Editions.{editions}
@@ -126,6 +126,11 @@ pub record Judge : Type 0 where
   pub judged : judge-leaves settings (1 ∷ 1 ∷ 0 ∷ 2 ∷ []) store (frame 1 0x00 0x03 rest)
       ≡ left 0 (1 ∷ 2 ∷ 1 ∷ 0 ∷ []) (0xE9 ∷ 0x05 ∷ 0x11 ∷ 0x22 ∷ 0x33 ∷ lent 7) []
   pub faulted : judge-leaves settings (1 ∷ 1 ∷ 0 ∷ 2 ∷ []) store (frame 2 0x00 0x03 rest) ≡ left 0 (2 ∷ 2 ∷ 1 ∷ 0 ∷ []) store []
+  -- a tape of two frames, the second in order and a fault; and at a full tally none, a frame too many and a rest, which change nothing
+  pub taped : map (λ (count : ℕ). tape-leaves settings (1 ∷ 1 ∷ 0 ∷ 2 ∷ []) store (frame 1 0x00 0x03 rest ++ frame count 0x00 0x00 ten)) (2 ∷ 3 ∷ [])
+      ≡ left 0 (1 ∷ 3 ∷ 2 ∷ 0 ∷ []) (0xE9 ∷ 0x05 ∷ 0x11 ∷ 0x22 ∷ 0x33 ∷ lent 7) [] ∷ left 0 (2 ∷ 3 ∷ 2 ∷ 0 ∷ []) (0xE9 ∷ 0x05 ∷ 0x11 ∷ 0x22 ∷ 0x33 ∷ lent 7) [] ∷ []
+  pub tape-edges : map (λ (os : List ℕ). tape-leaves settings (1 ∷ 16777216 ∷ 0 ∷ 2 ∷ []) store os) ([] ∷ frame 1 0x00 0x03 rest ∷ lent 17 ∷ [])
+      ≡ map (λ (n : ℕ). left n (1 ∷ 16777216 ∷ 0 ∷ 2 ∷ []) store []) (0 ∷ 11 ∷ 3 ∷ [])
   pub closed : map (λ (record-array : List ℕ). close-leaves settings record-array store (lent 2)) ((0 ∷ 0 ∷ 0 ∷ 0 ∷ []) ∷ (1 ∷ 1 ∷ 0 ∷ 2 ∷ []) ∷ (2 ∷ 5 ∷ 3 ∷ 0 ∷ []) ∷ (3 ∷ 0 ∷ 0 ∷ 0 ∷ []) ∷ [])
       ≡ left 0 [] [] (1 ∷ 0 ∷ []) ∷ left 0 [] [] (2 ∷ 1 ∷ []) ∷ left 0 [] [] (2 ∷ 3 ∷ []) ∷ left 10 [] [] (0 ∷ 0 ∷ []) ∷ []
 
@@ -199,6 +204,8 @@ pub record Short : Type 0 where
       ≡ left 2 (lent 4) [] (lent 7) ∷ left 2 (lent 3) [] (lent 7) ∷ left 2 (lent 4) [] (lent 6) ∷ left 2 (lent 4) (lent 2) (lent 4) ∷ left 2 [] [] (lent 3) ∷ left 2 [] [] (lent 2) ∷ []
   pub judge : judge-leaves (lent 6) (lent 4) (lent 2) [] ∷ judge-leaves (lent 7) (lent 3) (lent 2) [] ∷ close-leaves (lent 7) (lent 4) [] (lent 1) ∷ []
       ≡ left 2 (lent 4) (lent 2) [] ∷ left 2 (lent 3) (lent 2) [] ∷ left 2 [] [] (lent 1) ∷ []
+  pub tape : tape-leaves (lent 6) (lent 4) (lent 2) [] ∷ tape-leaves (lent 7) (lent 3) (lent 2) [] ∷ []
+      ≡ left 2 (lent 4) (lent 2) [] ∷ left 2 (lent 3) (lent 2) [] ∷ []
   pub bits : write-leaves (lent 5) (lent 1) [] 0 (lent 2) ∷ write-leaves (lent 6) [] [] 0 (lent 2) ∷ read-leaves (lent 5) (lent 3) [] (lent 6) ∷ read-leaves (lent 6) (lent 2) [] (lent 6) ∷ read-leaves (lent 6) (lent 3) [] (lent 5) ∷ []
       ≡ left 2 (lent 1) (lent 2) [] ∷ left 2 [] (lent 2) [] ∷ left 2 (lent 3) [] (lent 6) ∷ left 2 (lent 2) [] (lent 6) ∷ left 2 (lent 3) [] (lent 5) ∷ []
   -- a list that ends within an entry is short too
@@ -249,6 +256,7 @@ pub record Outside : Type 0 where
   pub step : map (λ (s : List ℕ). step-leaves s (3 ∷ 1 ∷ 2 ∷ 0 ∷ []) store (frame 1 0x00 0x03 rest) (lent 5)) outside
       ≡ each outside (left 1 (3 ∷ 1 ∷ 2 ∷ 0 ∷ []) store (0 ∷ 0 ∷ 0 ∷ 0 ∷ 0 ∷ []))
   pub judge : map (λ (s : List ℕ). judge-leaves s (1 ∷ 1 ∷ 0 ∷ 2 ∷ []) store (frame 1 0x00 0x03 rest)) outside ≡ each outside (left 1 (1 ∷ 1 ∷ 0 ∷ 2 ∷ []) store [])
+  pub tape : map (λ (s : List ℕ). tape-leaves s (1 ∷ 1 ∷ 0 ∷ 2 ∷ []) store (frame 1 0x00 0x03 rest)) outside ≡ each outside (left 1 (1 ∷ 1 ∷ 0 ∷ 2 ∷ []) store [])
   pub close : map (λ (s : List ℕ). close-leaves s (1 ∷ 1 ∷ 0 ∷ 2 ∷ []) store (lent 2)) outside ≡ each outside (left 1 [] [] (0 ∷ 0 ∷ []))
   pub write : map (λ (s : List ℕ). write-leaves s (4 ∷ []) [] 0 (lent 10)) bits-outside ≡ each bits-outside (left 1 (4 ∷ []) (lent 10) [])
   pub read : map (λ (s : List ℕ). read-leaves s (1 ∷ 2 ∷ 1 ∷ []) (frame 4 0x00 0x08 (lent 2)) (lent 6)) bits-outside
@@ -323,6 +331,7 @@ pub record Refused : Type 0 where
   pub stepped : map (λ (r : List ℕ). step-leaves settings r store (frame 1 0x00 0x03 rest) (lent 5)) unmade
       ≡ map (λ (r : List ℕ). left 10 r store (0 ∷ 0 ∷ 0 ∷ 0 ∷ 0 ∷ [])) unmade
   pub judged : map (λ (r : List ℕ). judge-leaves settings r store (frame 1 0x00 0x03 rest)) unjudged ≡ map (λ (r : List ℕ). left 10 r store []) unjudged
+  pub taped : map (λ (r : List ℕ). tape-leaves settings r store (frame 1 0x00 0x03 rest)) unjudged ≡ map (λ (r : List ℕ). left 10 r store []) unjudged
   pub closed : map (λ (r : List ℕ). close-leaves settings r store (lent 2)) unjudged ≡ each unjudged (left 10 [] [] (0 ∷ 0 ∷ []))
   pub flushed : mux-leaves to-flush 1 flush-numbers settings (4294967296 ∷ 8 ∷ 0 ∷ 0 ∷ []) (lent 18) (lent 1)
       ≡ left 10 (4294967296 ∷ 8 ∷ 0 ∷ 0 ∷ []) (lent 18) (0 ∷ [])

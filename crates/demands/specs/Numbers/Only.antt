@@ -23,6 +23,7 @@ use Rattle.extractor.specs.Answers.{enter-answer, step-answer}
 use Rattle.extractor.specs.Calls.{spend-answer}
 use Rattle.extractor.specs.declared.Extractor.{Extractor}
 use Rattle.judge.specs.Calls.{frame-call, close-call}
+use Rattle.judge.specs.Tapes.{tape-call}
 use Rattle.judge.specs.declared.Judge.{Judge}
 use Rattle.bitstream.specs.Bitstream.{written}
 use Rattle.bitstream.specs.Bitstream as bits
@@ -40,6 +41,7 @@ pub record OnlyThese : Type 0 where
   pub spend : (s : Settings) (x : Extractor) (store f : List ℕ) → Among (spend-answer s x store f .refusal) (0 ∷ 1 ∷ 2 ∷ 10 ∷ 9 ∷ 3 ∷ [])
   pub held : (s : Settings) (x : Extractor) (store : List ℕ) → Among (first (checked s x store [])) (0 ∷ 1 ∷ 2 ∷ 10 ∷ [])
   pub judge : (s : Settings) (store : List ℕ) (j : Judge) (f : List ℕ) → Among (frame-call s store j f .refusal) (0 ∷ 1 ∷ 2 ∷ 10 ∷ 11 ∷ [])
+  pub tape : (s : Settings) (store : List ℕ) (j : Judge) (t : List ℕ) → Among (tape-call s store j t .refusal) (0 ∷ 1 ∷ 2 ∷ 10 ∷ 11 ∷ 3 ∷ [])
   pub close : (s : Settings) (store : List ℕ) (j : Judge) → Among (close-call s store j .refusal) (0 ∷ 1 ∷ 2 ∷ 10 ∷ [])
   pub wrap : (limit protocol extension : ℕ) (unit output : List ℕ)
       → Among (wrapping limit protocol extension unit output .refusal) (0 ∷ 1 ∷ 8 ∷ 2 ∷ [])

@@ -10,7 +10,7 @@ use Rattle.exports.specs.Packet.{header-leaves, formed-leaves, wrap-leaves, unw
 use Rattle.exports.specs.Spaces.{read-space-leaves, write-space-leaves}
 use Rattle.exports.specs.Mux.{begin-leaves, mux-leaves, put-numbers, flush-numbers, no-numbers}
 use Rattle.exports.specs.Extract.{enter-leaves, step-leaves, show-leaves}
-use Rattle.exports.specs.Judging.{judge-leaves, close-leaves}
+use Rattle.exports.specs.Judging.{judge-leaves, tape-leaves, close-leaves}
 use Rattle.exports.specs.Bits.{write-leaves, read-leaves}
 use Rattle.exports.specs.Relaying.{load-leaves, route-leaves}
 use Rattle.exports.specs.Statements.{StatedAgain, ReadersExact, TablesLoaded, PartsNamed, ZeroIsRefused}
@@ -29,6 +29,7 @@ use Rattle.exports.proofs.itz_extractor_enter.Reads as extractor-enter-fn
 use Rattle.exports.proofs.itz_extractor_step.Reads as extractor-step-fn
 use Rattle.exports.proofs.itz_show.Reads as show-fn
 use Rattle.exports.proofs.itz_judge_frame.Reads as judge-frame-fn
+use Rattle.exports.proofs.itz_judge_tape.Reads as judge-tape-fn
 use Rattle.exports.proofs.itz_judge_close.Reads as judge-close-fn
 use Rattle.exports.proofs.itz_bits_write.Reads as bits-write-fn
 use Rattle.exports.proofs.itz_bits_read.Reads as bits-read-fn
@@ -73,6 +74,7 @@ pub record RefusedKeep : Type 0 where
   pub enter : (settings numbers store frame answer : List ℕ) → Keeps (enter-leaves settings numbers store frame answer) numbers []
   pub step : (settings numbers store frame answer : List ℕ) → Keeps (step-leaves settings numbers store frame answer) numbers store
   pub judge : (settings numbers store frame : List ℕ) → Keeps (judge-leaves settings numbers store frame) numbers store
+  pub tape : (settings numbers store tape : List ℕ) → Keeps (tape-leaves settings numbers store tape) numbers store
   pub bits-written : (settings numbers bits : List ℕ) (n : ℕ) (frame : List ℕ) → Keeps (write-leaves settings numbers bits n frame) numbers frame
   pub bits-read : (settings numbers frame answer : List ℕ) → Keeps (read-leaves settings numbers frame answer) numbers []
   pub wrapped : (limit protocol extension : ℕ) (unit packet answer : List ℕ) → Keeps (wrap-leaves limit protocol extension unit packet answer) [] packet
@@ -128,6 +130,9 @@ pub record OfExports : Type 0 where
   pub judge-frame : (κs : Lfts 4) (settings array store frame : Slice)
       → Is (leaving NoAnswer (judge-frame-fn.Pre κs (settings, (array, (store, (frame, tt))))) (λ o. judge-frame-fn.Post κs (settings, (array, (store, (frame, tt)))) (o .refusal) (settings, (at-last array (o .numbers), (at-last store (o .octets), (frame, tt))))))
       (judge-leaves (now settings) (now array) (now store) (now frame))
+  pub judge-tape : (κs : Lfts 4) (settings array store tape : Slice)
+      → Is (leaving NoAnswer (judge-tape-fn.Pre κs (settings, (array, (store, (tape, tt))))) (λ o. judge-tape-fn.Post κs (settings, (array, (store, (tape, tt)))) (o .refusal) (settings, (at-last array (o .numbers), (at-last store (o .octets), (tape, tt))))))
+      (tape-leaves (now settings) (now array) (now store) (now tape))
   pub judge-close : (κs : Lfts 4) (settings array store answer : Slice)
       → Is (leaving AnswerAlone (judge-close-fn.Pre κs (settings, (array, (store, (answer, tt))))) (λ o. judge-close-fn.Post κs (settings, (array, (store, (answer, tt)))) (o .refusal) (settings, (array, (store, (at-last answer (o .answer), tt))))))
       (close-leaves (now settings) (now array) (now store) (now answer))

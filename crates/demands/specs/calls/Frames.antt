@@ -5,7 +5,7 @@ use lib.Dec.{ltb, eqb}
 use contract.Lifetimes.{Lfts}
 use denote.Ref.{now, at-last}
 use Rattle.octets.specs.Basics.{over, Row}
-use Rattle.frames.specs.Link.{count-width, next-count, missing}
+use Rattle.frames.specs.Link.{around, count-width, next-count, missing}
 use Rattle.frames.specs.Frame.{in-range, frame-length, heading-rows, heading, head, head-rows}
 use Rattle.frames.specs.BitFrame.{bits-in-range, bit-frame-length, bit-heading-rows, bit-heading, bit-head, bit-head-rows}
 use Rattle.frames.specs.declared.Link.{Link}
@@ -13,6 +13,7 @@ use Rattle.frames.specs.declared.Settings.{Settings}
 use Rattle.frames.specs.declared.bits.BitSettings.{BitSettings}
 use Rattle.frames.specs.declared.Heading.{Heading}
 use Rattle.frames.proofs.in_range.Reads as in-range-fn
+use Rattle.frames.proofs.around.Reads as around-fn
 use Rattle.frames.proofs.has_length.Reads as has-length-fn
 use Rattle.frames.proofs.is_short.Reads as is-short-fn
 use Rattle.frames.proofs.read_head.Reads as read-head-fn
@@ -34,6 +35,7 @@ Reads c rows given = Promised c given rows (λ h. h) (λ h. h .refusal) (λ n. r
 -- ranges, lengths, the wheel, and the headers of packet frames and of bitstream frames
 pub record OfFrames : Type 0 where
   pub in-range : (s : Settings) → Is (as-read (in-range-fn.Pre tt (s, tt)) (λ r. in-range-fn.Post tt (s, tt) r (s, tt))) (in-range s)
+  pub around : (l : Link) → Is (as-read (around-fn.Pre tt (l, tt)) (λ r. around-fn.Post tt (l, tt) r (l, tt))) (around l)
   pub has-length : (s : Settings) (len : ℕ)
       → Is (as-read (has-length-fn.Pre tt (s, (len, tt))) (λ r. has-length-fn.Post tt (s, (len, tt)) r (s, (len, tt)))) (eqb len (frame-length s))
   pub is-short : (s : Settings) (len : ℕ)

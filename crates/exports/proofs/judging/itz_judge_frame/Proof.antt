@@ -1,6 +1,7 @@
 -- `exports::judging::itz_judge_frame` meets its contract: the arrays' lengths are tested first; then the numbers are those of the library's answer.
 -- Assumes nothing.
 use mathlib.Core.Path.{sym, _∙_}
+use Rattle.judge.specs.Calls.{frame-call}
 use Rattle.exports.proofs.Judges.{judge-short, judge-done}
 use borrow.Author.Needs.{needs}
 use Rattle.exports.proofs.judging.itz_judge_frame.Statement.{statement}
@@ -9,23 +10,22 @@ use Rattle.exports.proofs.judging.itz_judge_frame.Tie as tie
 returns : tie.Need-returns
 returns c =
     let a = c .before .before .before .before .before .before .args in
-    judge-short (a .settings .now) (a .«record» .now) (a .store .now) (a .frame .now)
+    judge-short frame-call (a .settings .now) (a .«record» .now) (a .store .now) (a .frame .now)
     (sym (c .before .is-short .ensures) ∙ c .if1 .taken)
 
 returns-2 : tie.Need-returns-2
 returns-2 c =
     let at-keep = c .before .before in
-    let at-numbers = at-keep .before .before .before in
-    let at-frame = at-numbers .before .before .before .before in
+    let at-frame = at-keep .before .before .before .before in
     let at-record = at-frame .before .before in
     let at-settings = at-record .before .before in
     let at-if1 = at-settings .before in
     let at-short = at-if1 .before in
     let a = at-short .before .before .before .before .before .args in
-    judge-done (a .settings .now) (a .«record» .now) (a .store .now) (a .frame .now)
+    judge-done frame-call (a .settings .now) (a .«record» .now) (a .store .now) (a .frame .now)
     (at-settings .settings-of .result) (at-record .judge-of .result) (at-frame .frame .result)
     (sym (at-short .is-short .ensures) ∙ at-if1 .if1 .left) (at-settings .settings-of .ensures) (at-record .judge-of .ensures) (at-frame .frame .ensures)
-    (at-numbers .judge-numbers .ensures) (at-keep .keep .ensures .1)
+    (at-keep .keep-judged .ensures .0) (at-keep .keep-judged .ensures .1)
 
 pub itz-judge-frame-spec : {M : Type 1} → statement M
 itz-judge-frame-spec =
@@ -36,10 +36,7 @@ itz-judge-frame-spec =
     (λ c κs. search needs)
     (λ c κs. search needs)
     (λ c κs. search needs)
-    (λ c. search needs)
-    (λ c κs. search needs)
-    (λ c. search needs)
     (λ c κs. search needs)
     (λ c. c .before .«record» .given)
-    (λ c. c .before .before .before .before .before .before .before .before .store .given)
+    (λ c. c .before .before .before .before .before .store .given)
     returns-2)

@@ -45,7 +45,7 @@ returns c =
     rw (at-told .enum-told .given .1)
     (at-tried .tried .ensures
     ∙ ap (λ (x : Extractor). try-frame (a .s) 0 (stands-for (a .store .now) x) (a .store .now) (a .frame .now)) (at-ready .ready-for .ensures)
-    ∙ opened-tried (a .s) (a .store .now) (a .frame .now) (accepted b (at-told .enum-told .given .1) .ranged))
+    ∙ opened-tried (a .s) (a .store .now) (a .frame .now) (accepted b (at-told .enum-told .given .1) .found .ranged))
 
 returns-2 : tie.Need-returns-2
 unfolding judge-frame
