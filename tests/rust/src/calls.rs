@@ -76,6 +76,7 @@ macro_rules! each_call {
             );
             show(step: &[u64], frame: &[u8], store: &[u8], answer: &mut [u64]);
             judge_frame(settings: &[u64], record: &mut [u64], store: &mut [u8], frame: &[u8]);
+            judge_tape(settings: &[u64], record: &mut [u64], store: &mut [u8], tape: &[u8]);
             judge_close(settings: &[u64], record: &[u64], store: &[u8], answer: &mut [u64]);
             bits_write(
                 settings: &[u64], record: &mut [u64],
@@ -310,6 +311,22 @@ impl Calls for Reference {
             let settings = read_settings(settings)?;
             let mut state = read_judge(record);
             judge::frame(&settings, &mut state, store, frame)?;
+            *record = judge_numbers(&state);
+            Ok([])
+        })
+    }
+
+    fn judge_tape(
+        &self,
+        settings: &[u64],
+        record: &mut [u64],
+        store: &mut [u8],
+        tape: &[u8],
+    ) -> u64 {
+        with_record::<SETTINGS, JUDGE, 0>(settings, record, &mut [], |settings, record| {
+            let settings = read_settings(settings)?;
+            let mut state = read_judge(record);
+            judge::tape(&settings, &mut state, store, tape)?;
             *record = judge_numbers(&state);
             Ok([])
         })

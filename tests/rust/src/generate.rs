@@ -1,5 +1,5 @@
-//! Generators: settings, packets, runs that conform, relay tables, and ways to spoil them, damaged
-//! headers, frames of bits, and the signalling octets and trailers of frames.
+//! Generators: settings, packets, runs that conform, relay tables, and ways to spoil them, tapes of
+//! runs, damaged headers, frames of bits, and the signalling octets and trailers of frames.
 
 use crate::calls::{
     BIT_READER, BIT_SETTINGS, EXTRACTOR, JUDGE, MUX, RELAY, SETTINGS, SPACE_HEADER,
@@ -8,6 +8,7 @@ use crate::random::Random;
 use crate::reference::bitstream;
 use crate::reference::edition::Edition;
 use crate::reference::frame::{self, Settings, HEAD, IDLE_ZONE, NO_START};
+use crate::reference::judge::MOST_FRAMES;
 use crate::reference::multiplexer;
 use crate::reference::packet::{IDLE_APID, LONGEST_HEADER};
 use crate::reference::space;
@@ -547,6 +548,38 @@ pub fn some_run(random: &mut Random, settings: &Settings) -> Vec<Vec<u8>> {
     run.frames
 }
 
+/// A run cut into tapes: all of it on one, each frame on its own, or any number of frames on each,
+/// none on some.
+pub fn tapes(random: &mut Random, frames: &[Vec<u8>]) -> Vec<Vec<u8>> {
+    match random.within(1, 5) {
+        1 => return vec![frames.concat()],
+        2 => return frames.to_vec(),
+        _ => {}
+    }
+    let most = random.pick(&[2, 4, 20]);
+    let (mut tapes, mut left) = (vec![], frames);
+    while !left.is_empty() {
+        let (tape, behind) = left.split_at(random.within(0, left.len().min(most)));
+        tapes.push(tape.concat());
+        left = behind;
+    }
+    tapes
+}
+
+/// A tape with a rest of a frame at its end: behind its frames, or left of the last of them.
+pub fn torn(random: &mut Random, settings: &Settings, tape: &[u8]) -> Vec<u8> {
+    let length = settings.frame_length();
+    let any = random.within(1, length - 1);
+    let size = random.pick(&[1, TRAILER, any, any, length - 1]);
+    let mut torn = tape.to_vec();
+    if torn.len() > size && random.once_in(2) {
+        torn.truncate(torn.len() - size);
+    } else {
+        torn.extend(random.octets(size));
+    }
+    torn
+}
+
 /// Damages the header of one of the packets of a run that conforms, in the zones where it lies. The
 /// pointers stay, and trailers are made right again.
 pub fn damage_header(random: &mut Random, settings: &Settings, run: &mut Run) {
@@ -958,6 +991,21 @@ pub fn judge_record(random: &mut Random, settings: &Settings, store: usize) -> [
             number(random, &[0, 1]),
             number(random, &[0, 1]),
         ],
+    }
+}
+
+/// A judge's record before these frames: that of no frame yet, or one so near the judge's last frame
+/// that it comes among them or soon behind them, with a fault so far or without.
+pub fn record_before(random: &mut Random, settings: &Settings, frames: &[Vec<u8>]) -> [u64; JUDGE] {
+    let tally = u64::from(MOST_FRAMES) - random.within(0, frames.len() + 1) as u64;
+    let first = frames.first().and_then(|frame| frame::read(settings, frame).ok());
+    let count = first.map_or(0, |head| head.count);
+    let last = count.wrapping_sub(1) % settings.edition.wheel();
+    let any = random.any() % tally;
+    match random.within(1, 6) {
+        1 | 2 => [1, tally, last.into(), 0],
+        3 => [2, tally, random.pick(&[0, any, tally - 1]), 0],
+        _ => [0, 0, 0, 0],
     }
 }
 

@@ -28,7 +28,7 @@ const WRONG_TRAILER: u64 = 13;
 /// The calls whose refusal 8 may name a damage; that of the others never does.
 pub const NAMING: [&str; 3] = ["unwrap", "mux_put", "relay_route"];
 
-pub const ORDERS: [Order; 20] = [
+pub const ORDERS: [Order; 21] = [
     Order { call: "read_header", refusals: &[1] },
     Order { call: "well_formed", refusals: &[1] },
     Order { call: "wrap", refusals: &[1, 8, 2] },
@@ -44,6 +44,7 @@ pub const ORDERS: [Order; 20] = [
     Order { call: "extractor_step", refusals: &[1, 2, 10, 9, 3] },
     Order { call: "show", refusals: &[] },
     Order { call: "judge_frame", refusals: &[1, 2, 10, 11] },
+    Order { call: "judge_tape", refusals: &[1, 2, 10, 11, 3] },
     Order { call: "judge_close", refusals: &[1, 2, 10] },
     Order { call: "bits_write", refusals: &[1, 2, 10] },
     Order { call: "bits_read", refusals: &[1, 10, 3, 13, 4, 5, 6, 7] },
@@ -59,7 +60,7 @@ pub struct Arguments {
     pub numbers: Vec<u64>,
     /// A record, a relay table among them.
     pub record: Vec<u64>,
-    /// What is only read: a frame, a packet, data or bits.
+    /// What is only read: a frame, a tape of frames, a packet, data or bits.
     pub octets: Vec<u8>,
     /// What may be written: a frame, a packet, the store or destinations.
     pub buffer: Vec<u8>,
@@ -106,6 +107,7 @@ pub fn arguments(call: &str, refusals: &[u64], manner: Manner) -> Arguments {
     let mut frame = [&[0x50, 0x83, 0, 0, 5, signalling, 0, 0][..], &[0xE0; 10]].concat();
     frame.resize(if trailer { 20 } else { 18 }, 0);
     let written = vec![0; frame.len()];
+    let tape = tape_from(&frame, trailer);
     let table = [&[2, 5, 7, 5, 9][..], &[0; calls::RELAY - 5]].concat();
     let space = vec![0x00, 0x05, 0xC0, 0x00, 0x00, 0x00, 0xA1];
     let (numbers, record, octets, buffer, answer) = match call {
@@ -124,6 +126,7 @@ pub fn arguments(call: &str, refusals: &[u64], manner: Manner) -> Arguments {
         "extractor_step" => (channel, vec![3, count, 0, 0], frame, vec![0; 64], calls::STEP),
         "show" => (vec![1, 1, 8, 10, 0], vec![], frame, vec![0; 64], calls::SHOWN),
         "judge_frame" => (channel, vec![1, 5, last, 0], frame, vec![0; 64], 0),
+        "judge_tape" => (channel, vec![1, 5, last, 0], tape, vec![0; 64], 0),
         "judge_close" => (channel, vec![1, 5, last, 0], vec![], vec![0; 64], calls::VERDICT),
         "bits_write" => ([bit_channel, vec![13]].concat(), vec![count], vec![0xA1; 2], written, 0),
         "bits_read" => (bit_channel, vec![1, last, 1], frame, vec![], calls::BITS),
@@ -147,6 +150,16 @@ pub fn arguments(call: &str, refusals: &[u64], manner: Manner) -> Arguments {
     arguments
 }
 
+/// A tape of this frame and of the one that follows it, each with its trailer if there are such.
+fn tape_from(frame: &[u8], trailer: bool) -> Vec<u8> {
+    let mut frames = [frame.to_vec(), frame.to_vec()];
+    frames[1][4] += 1;
+    if trailer {
+        frames.iter_mut().for_each(|frame| trailer::write(frame));
+    }
+    frames.concat()
+}
+
 fn change(call: &str, refusal: u64, manner: Manner, arguments: &mut Arguments) {
     let Arguments { numbers, record, octets, buffer, .. } = arguments;
     let off_the_wheel = manner.edition.wheel().into();
@@ -161,12 +174,14 @@ fn change(call: &str, refusal: u64, manner: Manner, arguments: &mut Arguments) {
         }
         // A relay's table has no count, but no such number of entries either.
         (10, "extractor_enter" | "extractor_step" | "bits_read") => record[1] = off_the_wheel,
-        (10, "judge_frame" | "judge_close") => record[2] = off_the_wheel,
+        (10, "judge_frame" | "judge_tape" | "judge_close") => record[2] = off_the_wheel,
         (10, _) => record[0] = off_the_wheel,
         // More is taken of the packet than it has; or a packet is open.
         (9, "mux_put" | "mux_flush" | "mux_idle") => record[3] = 20,
         (9, "extractor_enter") => record[0] = 3,
         (9, _) => record[0] = 2,
+        // The last frame that can be added is the first of two.
+        (11, "judge_tape") => record[1] = FULL_RUN - 1,
         (11, _) => record[1] = FULL_RUN,
         (12, _) => numbers[0] = 2_047,
         (3, _) => octets.push(0),
@@ -221,6 +236,7 @@ pub fn make(calls: &dyn Calls, call: &str, arguments: &mut Arguments) -> u64 {
         "extractor_step" => calls.extractor_step(numbers, record, buffer, octets, answer),
         "show" => calls.show(numbers, octets, buffer, answer),
         "judge_frame" => calls.judge_frame(numbers, record, buffer, octets),
+        "judge_tape" => calls.judge_tape(numbers, record, buffer, octets),
         "judge_close" => calls.judge_close(numbers, record, buffer, answer),
         "bits_write" => match numbers.split_last() {
             Some((&number, numbers)) => calls.bits_write(numbers, record, octets, number, buffer),

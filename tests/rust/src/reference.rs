@@ -45,7 +45,7 @@ pub enum Refusal {
     Moment,
     /// A record, or held octets, that the rules cannot reach.
     Record,
-    /// A frame beyond the judge's last.
+    /// A frame, alone or on a tape, beyond the judge's last.
     Beyond,
     /// Too many entries for a relay table, an APID past those of it, or a pair twice.
     Table,

@@ -2,7 +2,8 @@
 //!
 //! Both are lent copies of the same arrays and buffers. After each call what they
 //! answer, and everything that they were lent and might have written, is
-//! compared.
+//! compared. What a tape comes to is compared with its frames too, on each side
+//! by itself.
 
 use std::collections::BTreeMap;
 use std::fmt;
@@ -14,6 +15,7 @@ use crate::random::Random;
 use crate::reference::bitstream::octets_for;
 use crate::reference::edition::Edition;
 use crate::reference::frame::{Settings, HEAD};
+use crate::reference::judge::MOST_FRAMES;
 use crate::reference::packet::{self, Look, LIMITS};
 use crate::reference::relay::MOST_ENTRIES;
 use crate::reference::trailer::TRAILER;
@@ -90,23 +92,8 @@ impl Pair<'_> {
         let second = make(self.second, &mut other);
         let index = self.index;
         self.index += 1;
-        if first != second || *lent != other {
-            let what = if first != second {
-                format!("refusal {first} and {second}")
-            } else if lent.record != other.record {
-                format!("record {:?} and {:?}", lent.record, other.record)
-            } else if lent.answer != other.answer {
-                format!("answer {:x?} and {:x?}", lent.answer, other.answer)
-            } else {
-                let place = lent.buffer.iter().zip(&other.buffer).position(|(a, b)| a != b);
-                format!("octet {:?} of the buffer", place.unwrap_or_default())
-            };
-            let lent = format!(
-                "settings {settings:?}, record {:?}, reads {}, may write {}",
-                before.record,
-                shown(read),
-                shown(&before.buffer),
-            );
+        if let Some(what) = unlike((first, lent), (second, &other)) {
+            let lent = told(settings, read, &before);
             return Err(Difference { call, index, what, lent });
         }
         *self.tally.refusals.entry((call, first)).or_default() += 1;
@@ -141,6 +128,39 @@ impl Pair<'_> {
         }
     }
 
+    /// Notes a tape that was taken, or refused for its length, with the record before it and behind
+    /// it: how many frames are taken, and whether a rest of one stands behind those that are too
+    /// many; what is said of it when the tally is full; and where its first fault is.
+    fn note_tape(
+        &mut self,
+        refusal: u64,
+        numbers: &[u64],
+        before: &[u64],
+        after: &[u64],
+        tape: &[u8],
+    ) {
+        let length = frame_length(numbers);
+        let whole = (tape.len() / length) as u64;
+        match refusal {
+            // Two stand for all that are several.
+            0 => self.note("tape of frames", whole.min(2)),
+            11 => self.note("rest behind too many frames", (tape.len() % length).min(1) as u64),
+            _ => {}
+        }
+        if before[1] == u64::from(MOST_FRAMES) {
+            self.note("tape with the tally full", refusal);
+        }
+        if whole > 2 && before[0] < 2 && after[0] == 2 {
+            // 1 is the first frame, 3 the last, and 2 stands for those between.
+            let place = match after[2].saturating_sub(before[1]) {
+                0 => 1,
+                place if place + 1 < whole => 2,
+                _ => 3,
+            };
+            self.note("fault on a tape", place);
+        }
+    }
+
     /// Notes the bit of the signalling octet that alone is wrong in a frame refused by 6, if there is
     /// one.
     fn note_wrong_signalling(&mut self, edition: Edition, frame: &[u8]) {
@@ -155,6 +175,33 @@ impl Pair<'_> {
     }
 }
 
+/// What is not the same in two outcomes of a call, each a refusal and what was lent as the call has
+/// left it.
+fn unlike((first, lent): (u64, &Lent), (second, other): (u64, &Lent)) -> Option<String> {
+    if first != second {
+        Some(format!("refusal {first} and {second}"))
+    } else if lent.record != other.record {
+        Some(format!("record {:?} and {:?}", lent.record, other.record))
+    } else if lent.answer != other.answer {
+        Some(format!("answer {:x?} and {:x?}", lent.answer, other.answer))
+    } else if lent.buffer != other.buffer {
+        let place = lent.buffer.iter().zip(&other.buffer).position(|(a, b)| a != b);
+        Some(format!("octet {:?} of the buffer", place.unwrap_or_default()))
+    } else {
+        None
+    }
+}
+
+/// What a call is lent, in words.
+fn told(settings: &[u64], read: &[u8], lent: &Lent) -> String {
+    format!(
+        "settings {settings:?}, record {:?}, reads {}, may write {}",
+        lent.record,
+        shown(read),
+        shown(&lent.buffer),
+    )
+}
+
 /// The count's own field has so many counts, above which a cycle may stand.
 const BELOW_CYCLE: u64 = 1 << 24;
 
@@ -162,6 +209,12 @@ const BELOW_CYCLE: u64 = 1 << 24;
 fn edition_of(numbers: &[u64]) -> Edition {
     let last = numbers.last().expect("settings have numbers");
     Edition::ALL[*last as usize]
+}
+
+/// The length of a frame under settings in range.
+fn frame_length(numbers: &[u64]) -> usize {
+    let trailer = if numbers[5] == 1 { TRAILER } else { 0 };
+    HEAD + numbers[2] as usize + trailer
 }
 
 /// The length of a buffer and its first octets.
@@ -175,17 +228,19 @@ pub fn session(first: &dyn Calls, second: &dyn Calls, seed: u64) -> Result<Tally
     let mut pair = Pair { first, second, index: 0, tally: Tally::default() };
     let mut random = Random::new(seed);
     let random = &mut random;
-    match random.within(1, 106) {
+    match random.within(1, 120) {
         1..=7 => headers(&mut pair, random),
         8..=10 => space_headers(&mut pair, random),
         11..=20 => wrapping(&mut pair, random),
         21..=38 => multiplexing(&mut pair, random),
         39..=68 => extracting(&mut pair, random),
         69..=83 => judging(&mut pair, random),
-        84..=93 => bits(&mut pair, random),
-        94..=99 => relaying(&mut pair, random),
-        100..=103 => any_record(&mut pair, random),
-        104 => short_arrays(&mut pair, random),
+        84..=91 => taping(&mut pair, random),
+        92..=96 => tapes_and_frames(&mut pair, random),
+        97..=106 => bits(&mut pair, random),
+        107..=112 => relaying(&mut pair, random),
+        113..=117 => any_record(&mut pair, random),
+        118 => short_arrays(&mut pair, random),
         _ => several_refusals(&mut pair, random),
     }?;
     Ok(pair.tally)
@@ -694,11 +749,162 @@ fn judging(pair: &mut Pair, random: &mut Random) -> Result<(), Difference> {
             close(pair, random, &numbers, &mut lent)?;
         }
     }
-    let numbers = generate::settings_numbers(&settings);
-    if close(pair, random, &numbers, &mut lent)? == 0 {
+    end(pair, random, &settings, &mut lent)
+}
+
+/// Closes a run, and notes its verdict.
+fn end(
+    pair: &mut Pair,
+    random: &mut Random,
+    settings: &Settings,
+    lent: &mut Lent,
+) -> Result<(), Difference> {
+    let numbers = generate::settings_numbers(settings);
+    if close(pair, random, &numbers, lent)? == 0 {
         pair.note("verdict", lent.answer[0]);
     }
     Ok(())
+}
+
+/// A run that is handed over in tapes, at times with a torn one before a whole one.
+fn taping(pair: &mut Pair, random: &mut Random) -> Result<(), Difference> {
+    let settings = generate::settings(random);
+    let frames = generate::some_run(random, &settings);
+    let settings = some_reader(random, settings);
+    let mut lent = Lent {
+        record: generate::record_before(random, &settings, &frames).to_vec(),
+        buffer: some_store(random, &settings),
+        answer: vec![],
+    };
+    for tape in generate::tapes(random, &frames) {
+        let numbers = some_settings(random, &settings);
+        if random.once_in(3) {
+            let torn = generate::torn(random, &settings, &tape);
+            judge_tape(pair, &numbers, &mut lent, &torn)?;
+        }
+        if random.once_in(20) {
+            // A store that is too short.
+            let mut short = lent.clone();
+            short.buffer.truncate(settings.limit - 1);
+            judge_tape(pair, &numbers, &mut short, &tape)?;
+        }
+        if judge_tape(pair, &numbers, &mut lent, &tape)? == 11 {
+            fill_the_tally(pair, random, &numbers, &mut lent, &tape)?;
+        }
+        if random.once_in(3) {
+            close(pair, random, &numbers, &mut lent)?;
+        }
+    }
+    end(pair, random, &settings, &mut lent)
+}
+
+/// Hands over as much of a tape that has too many frames as there may still be, after a little more
+/// than that; and then something to the full tally.
+fn fill_the_tally(
+    pair: &mut Pair,
+    random: &mut Random,
+    numbers: &[u64],
+    lent: &mut Lent,
+    tape: &[u8],
+) -> Result<(), Difference> {
+    let front = |size: usize| &tape[..size.min(tape.len())];
+    let length = frame_length(numbers);
+    let left = u64::from(MOST_FRAMES).saturating_sub(lent.record[1]) as usize * length;
+    let rest = random.within(1, length - 1);
+    for part in [
+        front(left + length),
+        front(left + rest),
+        front(left),
+        // Nothing, a rest and a frame.
+        &[],
+        front(rest),
+        front(length),
+    ] {
+        judge_tape(pair, numbers, lent, part)?;
+    }
+    Ok(())
+}
+
+fn judge_tape(
+    pair: &mut Pair,
+    numbers: &[u64],
+    lent: &mut Lent,
+    tape: &[u8],
+) -> Result<u64, Difference> {
+    let before = lent.record.clone();
+    lent.answer = vec![];
+    let refusal = pair.both("judge_tape", numbers, tape, lent, |calls, lent| {
+        calls.judge_tape(numbers, &mut lent.record, &mut lent.buffer, tape)
+    })?;
+    if matches!(refusal, 0 | 3 | 11) {
+        pair.note_tape(refusal, numbers, &before, &lent.record, tape);
+    }
+    Ok(refusal)
+}
+
+/// A run that is handed over in tapes and frame by frame.
+fn tapes_and_frames(pair: &mut Pair, random: &mut Random) -> Result<(), Difference> {
+    let settings = generate::settings(random);
+    let frames = generate::some_run(random, &settings);
+    let mut lent = Lent {
+        record: generate::record_before(random, &settings, &frames).to_vec(),
+        buffer: random.octets(settings.limit),
+        answer: vec![],
+    };
+    for tape in generate::tapes(random, &frames) {
+        if random.once_in(3) {
+            let torn = generate::torn(random, &settings, &tape);
+            tape_and_frames(pair, random, &settings, &mut lent, &torn)?;
+        }
+        tape_and_frames(pair, random, &settings, &mut lent, &tape)?;
+    }
+    Ok(())
+}
+
+/// Both sides judge the frames of a tape singly, none if the tape is to be refused. Then each side, by
+/// its own calls alone, takes the tape from the same record and store, and must come to the same
+/// record, store and verdict.
+fn tape_and_frames(
+    pair: &mut Pair,
+    random: &mut Random,
+    settings: &Settings,
+    lent: &mut Lent,
+    tape: &[u8],
+) -> Result<(), Difference> {
+    let numbers = generate::settings_numbers(settings);
+    let before = lent.clone();
+    let refusal = refusal_of_tape(settings, before.record[1], tape);
+    if refusal == 0 {
+        for frame in tape.chunks_exact(settings.frame_length()) {
+            judge(pair, &numbers, lent, frame)?;
+        }
+    }
+    close(pair, random, &numbers, lent)?;
+    for calls in [pair.first, pair.second] {
+        let mut taped = Lent { answer: vec![JUNK; lent.answer.len()], ..before.clone() };
+        let Lent { record, buffer, answer } = &mut taped;
+        let said = calls.judge_tape(&numbers, record, buffer, tape);
+        calls.judge_close(&numbers, record, buffer, answer);
+        if let Some(what) = unlike((refusal, lent), (said, &taped)) {
+            let what = format!("{what}, singly and as a tape");
+            let (index, lent) = (pair.index, told(&numbers, tape, &before));
+            return Err(Difference { call: "judge_tape", index, what, lent });
+        }
+    }
+    Ok(())
+}
+
+/// What a tape is refused for behind so many frames, as document 02 has it; 0 is nothing.
+fn refusal_of_tape(settings: &Settings, tally: u64, tape: &[u8]) -> u64 {
+    let length = settings.frame_length();
+    let whole = (tape.len() / length) as u64;
+    if tally + whole > u64::from(MOST_FRAMES) {
+        11
+    } else if tape.len() % length != 0 {
+        3
+    } else {
+        0
+    }
 }
 
 fn judge(
@@ -929,7 +1135,7 @@ fn any_record(pair: &mut Pair, random: &mut Random) -> Result<(), Difference> {
         } else {
             frames[random.within(0, frames.len() - 1)].clone()
         };
-        match random.within(1, 6) {
+        match random.within(1, 7) {
             1 => {
                 let record = generate::mux_record(random, &settings).to_vec();
                 let buffer = random.octets(settings.frame_length());
@@ -953,6 +1159,16 @@ fn any_record(pair: &mut Pair, random: &mut Random) -> Result<(), Difference> {
                 close(pair, random, &numbers, &mut lent)?;
                 for _ in 0..random.within(1, 3) {
                     judge(pair, &numbers, &mut lent, &frame)?;
+                    close(pair, random, &numbers, &mut lent)?;
+                }
+            }
+            4 => {
+                let record = generate::judge_record(random, &settings, store.len()).to_vec();
+                let mut lent = Lent { record, buffer: store, answer: vec![] };
+                for tape in generate::tapes(random, &frames).iter().take(3) {
+                    let torn = generate::torn(random, &settings, tape);
+                    judge_tape(pair, &numbers, &mut lent, &torn)?;
+                    judge_tape(pair, &numbers, &mut lent, tape)?;
                     close(pair, random, &numbers, &mut lent)?;
                 }
             }
@@ -1091,6 +1307,11 @@ fn short_arrays(pair: &mut Pair, random: &mut Random) -> Result<(), Difference> 
         lent.buffer = store.clone();
         pair.both("judge_frame", &numbers, &frame, &mut lent, |calls, lent| {
             calls.judge_frame(&numbers, &mut lent.record, &mut lent.buffer, &frame)
+        })?;
+        let (numbers, mut lent) = all(random, &channel, &[0, 0, 0, 0], 0);
+        lent.buffer = store.clone();
+        pair.both("judge_tape", &numbers, &frame, &mut lent, |calls, lent| {
+            calls.judge_tape(&numbers, &mut lent.record, &mut lent.buffer, &frame)
         })?;
         let (numbers, mut lent) = all(random, &channel, &[2, 5, 3, 0], calls::VERDICT);
         lent.buffer = store.clone();

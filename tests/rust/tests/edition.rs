@@ -481,6 +481,8 @@ fn counts_of_records() {
         let record = [1, 7, count, 0];
         let judge = Reference.judge_frame(&settings, &mut record.clone(), &mut store(), &frame);
         assert_eq!(judge, expected, "judge {with}");
+        let tape = Reference.judge_tape(&settings, &mut record.clone(), &mut store(), &frame);
+        assert_eq!(tape, expected, "tape {with}");
         let close = Reference.judge_close(&settings, &record, &store(), &mut [0; 2]);
         assert_eq!(close, expected, "close {with}");
 
@@ -617,6 +619,8 @@ fn the_number_of_the_setting() {
         assert_eq!(step, ranged, "{number}");
         let judge = Reference.judge_frame(&settings, &mut [0; 4], &mut store(), &frame);
         assert_eq!(judge, ranged, "{number}");
+        let tape = Reference.judge_tape(&settings, &mut [0; 4], &mut store(), &frame);
+        assert_eq!(tape, ranged, "{number}");
         let close = Reference.judge_close(&settings, &[0; 4], &store(), &mut [7; 2]);
         assert_eq!(close, ranged, "{number}");
 

@@ -457,6 +457,8 @@ fn numbers_that_are_no_record() {
     ] {
         let mut after = record;
         assert_eq!(Reference.judge_frame(&settings, &mut after, &mut [0; 64], &frame), 10);
+        assert_eq!(Reference.judge_tape(&settings, &mut after, &mut [0; 64], &frame), 10);
+        assert_eq!(Reference.judge_tape(&settings, &mut after, &mut [0; 64], &[]), 10);
         assert_eq!(Reference.judge_close(&settings, &record, &[0; 64], &mut [0; 2]), 10);
         assert_eq!(after, record);
     }

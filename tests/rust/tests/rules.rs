@@ -1,9 +1,9 @@
 //! Whole frames and whole runs, read a second way.
 //!
 //! Here document 01's rules, with document 02's trailers, its loss flag, its names of
-//! damage and its longer count, are taken over lists of octets, a frame at a time and
-//! a run at a time, with no record, store or walk; and the reference is held against
-//! them.
+//! damage, its longer count and its tapes, are taken over lists of octets, a frame at
+//! a time and a run at a time, with no record, store or walk; and the reference is held
+//! against them.
 
 use std::collections::BTreeMap;
 
@@ -414,6 +414,33 @@ fn the_judge_passes_what_carries_packets() {
         }
     });
     assert!(verdicts.iter().all(|&times| times > 500), "{verdicts:?}");
+}
+
+/// A tape is the run of the frames that it is cut into. With a rest behind them it is refused, and
+/// nothing has come of it.
+#[test]
+fn the_judge_cuts_a_tape_into_frames() {
+    let mut outcomes = [0; 3];
+    for_many_runs(|settings, frames| {
+        let tape = frames.concat();
+        let mut record = judge::Record::Open;
+        let mut store = vec![0x77; settings.limit];
+        let said = judge::tape(settings, &mut record, &mut store, &tape);
+        let length = settings.zone + if settings.trailer { 10 } else { 8 };
+        if tape.len() % length != 0 {
+            assert_eq!(said.map_err(|refusal| refusal.number()), Err(3));
+            assert_eq!((record, store), (judge::Record::Open, vec![0x77; settings.limit]));
+            outcomes[2] += 1;
+            return;
+        }
+        let cut: Vec<Vec<u8>> = tape.chunks(length).map(<[u8]>::to_vec).collect();
+        let fault = first_fault(settings, &cut);
+        let expected = fault.map_or(Verdict::Pass, |index| Verdict::Fault(index as u32));
+        assert_eq!(judge::close(settings, &record, &store), Ok(expected), "{settings:?} {cut:x?}");
+        assert_eq!((said, record.tally() as usize), (Ok(()), cut.len()));
+        outcomes[usize::from(fault.is_some())] += 1;
+    });
+    assert!(outcomes.iter().all(|&times| times > 300), "{outcomes:?}");
 }
 
 /// What is multiplexed and closed by a flush is carried, for every small zone.

@@ -382,6 +382,8 @@ fn the_number_of_the_setting() {
         let refusal =
             Reference.extractor_enter(&settings, &mut record, &[0; 64], &FIRST, &mut answer);
         assert_eq!(refusal, expected, "{number}");
+        let refusal = Reference.judge_tape(&settings, &mut [0; 4], &mut [0; 64], &FIRST);
+        assert_eq!(refusal, expected, "{number}");
         // These calls refuse no frame for its length.
         let ranged = u64::from(number > 1);
         let refusal = Reference.judge_frame(&settings, &mut [0; 4], &mut [0; 64], &FIRST);

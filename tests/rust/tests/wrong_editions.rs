@@ -17,13 +17,14 @@ const REFUSING: [&str; 2] = ["extractor_enter", "bits_read"];
 const WRITING: [&str; 4] = ["mux_put", "mux_flush", "mux_idle", "bits_write"];
 
 /// The calls that have an edition, and a record with a count.
-const OF_COUNTS: [&str; 9] = [
+const OF_COUNTS: [&str; 10] = [
     "mux_put",
     "mux_flush",
     "mux_idle",
     "extractor_enter",
     "extractor_step",
     "judge_frame",
+    "judge_tape",
     "judge_close",
     "bits_write",
     "bits_read",
@@ -269,7 +270,7 @@ fn readers_of_another_replay_flag() {
 /// Where the count stands in a call's record.
 fn place_of_count(call: &str) -> usize {
     match call {
-        "judge_frame" | "judge_close" => 2,
+        "judge_frame" | "judge_tape" | "judge_close" => 2,
         "extractor_enter" | "extractor_step" | "bits_read" => 1,
         _ => 0,
     }

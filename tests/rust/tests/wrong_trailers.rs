@@ -18,13 +18,14 @@ const REFUSING: [&str; 2] = ["extractor_enter", "bits_read"];
 const WRITING: [&str; 4] = ["mux_put", "mux_flush", "mux_idle", "bits_write"];
 
 /// The calls that have to do with frames at all.
-const OF_FRAMES: [&str; 8] = [
+const OF_FRAMES: [&str; 9] = [
     "mux_put",
     "mux_flush",
     "mux_idle",
     "extractor_enter",
     "extractor_step",
     "judge_frame",
+    "judge_tape",
     "bits_write",
     "bits_read",
 ];

@@ -13,7 +13,8 @@
 //!
 //! The input is made first, and all sides are lent the same buffers. A work whose name ends in
 //! `-trailer` is the one of the name before that, on frames with trailers, and one whose name ends in
-//! `-cycle` on frames whose counts have a cycle above them.
+//! `-cycle` on frames whose counts have a cycle above them. `judge-tape` is `judge` with the same
+//! frames handed over in tapes.
 
 use std::env;
 use std::error::Error;
@@ -52,6 +53,10 @@ const WITH_TRAILER: Settings = Settings { trailer: true, ..CHANNEL };
 const WITH_CYCLE: Settings = Settings { edition: Edition::CycleUsed, ..CHANNEL };
 
 const CHANNELS: [Settings; 3] = [CHANNEL, WITH_TRAILER, WITH_CYCLE];
+
+/// Frames on a tape: so many that what a call takes beside them hardly shows, and so few that those
+/// counted or timed make several tapes, with the record going on from one to the next.
+const TAPE: usize = 1_000;
 
 /// The channel of a work.
 fn channel_of(work: &str) -> Settings {
@@ -135,6 +140,11 @@ impl Input {
     fn frames(&self) -> impl Iterator<Item = &[u8]> {
         self.frames.chunks_exact(self.settings.frame_length())
     }
+
+    /// The same frames on tapes, the last of which may have fewer.
+    fn tapes(&self) -> impl Iterator<Item = &[u8]> {
+        self.frames.chunks(TAPE * self.settings.frame_length())
+    }
 }
 
 /// What came of a work: numbers that every side of it must have.
@@ -144,7 +154,7 @@ type Outcome = [u64; 4];
 type Side = fn(&Input, &mut [u8]) -> Outcome;
 
 /// Every work with its sides, the library's first.
-const SIDES: [(&str, &str, Side); 17] = [
+const SIDES: [(&str, &str, Side); 19] = [
     ("extractor", "library", extractor_by_library),
     ("extractor", "reference", extractor_by_reference),
     ("extractor", "plain", extractor_by_plain),
@@ -152,6 +162,8 @@ const SIDES: [(&str, &str, Side); 17] = [
     ("multiplexer", "reference", multiplexer_by_reference),
     ("judge", "library", judge_by_library),
     ("judge", "reference", judge_by_reference),
+    ("judge-tape", "library", judge_tape_by_library),
+    ("judge-tape", "reference", judge_tape_by_reference),
     ("relay", "library", relay_by_library),
     ("relay", "reference", relay_by_reference),
     ("extractor-trailer", "library", extractor_by_library),
@@ -310,10 +322,26 @@ fn judge_by_library(input: &Input, _: &mut [u8]) -> Outcome {
         let refusal = Library.judge_frame(&settings, &mut record, &mut store, frame);
         assert_eq!(refusal, 0, "fewer frames than the judge's last");
     }
+    closed_by_library(&settings, &record, &store)
+}
+
+#[inline(never)]
+fn judge_tape_by_library(input: &Input, _: &mut [u8]) -> Outcome {
+    let settings = generate::settings_numbers(&input.settings);
+    let mut store = vec![0; input.settings.limit];
+    let mut record = [0; calls::JUDGE];
+    for tape in input.tapes() {
+        let refusal = Library.judge_tape(&settings, &mut record, &mut store, tape);
+        assert_eq!(refusal, 0, "whole frames, fewer than the judge's last");
+    }
+    closed_by_library(&settings, &record, &store)
+}
+
+fn closed_by_library(settings: &[u64], record: &[u64], store: &[u8]) -> Outcome {
     let mut verdict = [0; calls::VERDICT];
-    assert_eq!(Library.judge_close(&settings, &record, &store, &mut verdict), 0, "a record");
+    assert_eq!(Library.judge_close(settings, record, store, &mut verdict), 0, "a record");
     let [what, at] = verdict;
-    [what, at, 0, 0]
+    [what, at, record[1], 0]
 }
 
 #[inline(never)]
@@ -324,9 +352,24 @@ fn judge_by_reference(input: &Input, _: &mut [u8]) -> Outcome {
         let taken = judge::frame(&input.settings, &mut record, &mut store, frame);
         taken.expect("fewer frames than the judge's last");
     }
-    match judge::close(&input.settings, &record, &store).expect("a record") {
-        judge::Verdict::Pass => [1, 0, 0, 0],
-        judge::Verdict::Fault(at) => [2, at.into(), 0, 0],
+    closed_by_reference(&input.settings, &record, &store)
+}
+
+#[inline(never)]
+fn judge_tape_by_reference(input: &Input, _: &mut [u8]) -> Outcome {
+    let mut store = vec![0; input.settings.limit];
+    let mut record = judge::Record::Open;
+    for tape in input.tapes() {
+        let taken = judge::tape(&input.settings, &mut record, &mut store, tape);
+        taken.expect("whole frames, fewer than the judge's last");
+    }
+    closed_by_reference(&input.settings, &record, &store)
+}
+
+fn closed_by_reference(settings: &Settings, record: &judge::Record, store: &[u8]) -> Outcome {
+    match judge::close(settings, record, store).expect("a record") {
+        judge::Verdict::Pass => [1, 0, record.tally().into(), 0],
+        judge::Verdict::Fault(at) => [2, at.into(), record.tally().into(), 0],
     }
 }
 
@@ -386,30 +429,66 @@ fn relay_by_reference(input: &Input, _: &mut [u8]) -> Outcome {
     outcome
 }
 
-/// Every event of the extractors, every record of the judges, every frame of the
-/// multiplexers, and what comes of each work on this channel.
+/// Every event of the extractors, every record of the judges, frame by frame and tape by
+/// tape, every frame of the multiplexers, and what comes of each work on this channel.
 fn compare(input: &Input) -> Result<(), Box<dyn Error>> {
+    compare_frames(input)?;
+    compare_tapes(input)?;
+    compare_works(input)
+}
+
+const JUDGING: [&dyn Calls; 2] = [&Library, &Reference];
+
+/// A judge's record and its store.
+type Judge = ([u64; calls::JUDGE], [u8; CHANNEL.limit]);
+
+const NO_FRAME_YET: Judge = ([0; calls::JUDGE], [0; CHANNEL.limit]);
+
+fn compare_frames(input: &Input) -> Result<(), Box<dyn Error>> {
     let mut extractors: [Box<dyn Hearing>; 3] = [
         Box::new(ByCalls::new(&Library, input.settings)),
         Box::new(ByCalls::new(&Reference, input.settings)),
         Box::new(plain::Extractor::new(input.settings).expect("settings in range")),
     ];
     let settings = generate::settings_numbers(&input.settings);
-    let mut judges = [([0; calls::JUDGE], [0; CHANNEL.limit]); 2];
+    let mut judges = [NO_FRAME_YET; 2];
     for (place, frame) in input.frames().enumerate() {
         let [library, reference, plain] = &mut extractors;
         let heard = library.hear(frame);
         if heard != reference.hear(frame) || heard != plain.hear(frame) {
             return Err(format!("the extractors differ in frame {place}").into());
         }
-        let calls: [&dyn Calls; 2] = [&Library, &Reference];
-        for (calls, (record, store)) in calls.iter().zip(&mut judges) {
+        for (calls, (record, store)) in JUDGING.iter().zip(&mut judges) {
             calls.judge_frame(&settings, record, store, frame);
         }
         if judges[0] != judges[1] {
             return Err(format!("the judges differ in frame {place}").into());
         }
     }
+    Ok(())
+}
+
+/// Each side's judge has the same from a tape as from its frames.
+fn compare_tapes(input: &Input) -> Result<(), Box<dyn Error>> {
+    let settings = generate::settings_numbers(&input.settings);
+    let (mut singly, mut taped) = ([NO_FRAME_YET; 2], [NO_FRAME_YET; 2]);
+    for (place, tape) in input.tapes().enumerate() {
+        for (calls, (record, store)) in JUDGING.iter().zip(&mut singly) {
+            for frame in tape.chunks_exact(input.settings.frame_length()) {
+                calls.judge_frame(&settings, record, store, frame);
+            }
+        }
+        for (calls, (record, store)) in JUDGING.iter().zip(&mut taped) {
+            calls.judge_tape(&settings, record, store, tape);
+        }
+        if taped != singly || taped[0] != taped[1] {
+            return Err(format!("the judges differ in tape {place}").into());
+        }
+    }
+    Ok(())
+}
+
+fn compare_works(input: &Input) -> Result<(), Box<dyn Error>> {
     let mut expected = [0; 4];
     for (work, name, side) in SIDES {
         if channel_of(work) != input.settings {

@@ -73,6 +73,23 @@ pub fn frame(
     Ok(())
 }
 
+/// Takes the next frames of the run, any number of them, which lie end to end on a tape. Checks: 1,
+/// 2, 10, 11, 3.
+pub fn tape(
+    settings: &Settings,
+    record: &mut Record,
+    store: &mut [u8],
+    tape: &[u8],
+) -> Result<(), Refusal> {
+    check(settings, record, store)?;
+    let length = settings.frame_length();
+    let left = MOST_FRAMES - record.tally();
+    require(tape.len() / length <= left as usize, Refusal::Beyond)?;
+    require(tape.len() % length == 0, Refusal::Length)?;
+    // None of them is refused any more.
+    tape.chunks_exact(length).try_for_each(|one| frame(settings, record, store, one))
+}
+
 /// Says how the run stands if it ends here. Checks: 1, 2, 10.
 pub fn close(settings: &Settings, record: &Record, store: &[u8]) -> Result<Verdict, Refusal> {
     check(settings, record, store)?;

@@ -11,9 +11,9 @@ const SESSIONS: u64 = 30_000;
 pub type Way<'a> = &'a dyn Fn(&str, &mut Arguments) -> u64;
 
 /// The reference, but for one call, which is made in its own way.
-struct Impostor<'a> {
-    call: &'a str,
-    way: Way<'a>,
+pub struct Impostor<'a> {
+    pub call: &'a str,
+    pub way: Way<'a>,
 }
 
 /// An argument of a call, lent among all of them and taken back.
@@ -96,9 +96,13 @@ pub fn by_reference(call: &str, all: &mut Arguments) -> u64 {
 
 /// The call in which the comparison first sees through an impostor.
 pub fn first_seen(call: &str, way: Way) -> &'static str {
-    let impostor = Impostor { call, way };
+    first_difference(&Reference, &Impostor { call, way })
+}
+
+/// The call in which a session of two sets of calls first finds a difference.
+pub fn first_difference(first: &dyn Calls, second: &dyn Calls) -> &'static str {
     (0..SESSIONS)
-        .find_map(|seed| session(&Reference, &impostor, seed).err())
+        .find_map(|seed| session(first, second, seed).err())
         .map_or("never", |difference| difference.call)
 }
 
