@@ -30,9 +30,10 @@
  * entries, and the pointer must be good for that many. A null pointer may be
  * lent with 0 entries: nothing is read or written through it. A buffer may be
  * longer than needed; then its tail is left alone. The exceptions are a frame
- * to be read, which is refused (3) when it is longer, and a packet to be put,
- * tested, unwrapped or routed, whose stated length must be exactly what is
- * lent.
+ * to be read, which is refused (3) when it is longer, and judged alone is then
+ * a fault of its run; a tape of frames, which is refused (3) when it ends
+ * within one; and a packet to be put, tested, unwrapped or routed, whose stated
+ * length must be exactly what is lent.
  *
  * Aliasing. What a call may write, the pointers without const, must not
  * overlap anything else lent to that call. What it only reads may overlap.
@@ -82,7 +83,8 @@ enum itz_refusal {
     ITZ_ACCEPTED = 0,         /* it is not */
     ITZ_REFUSED_SETTING = 1,  /* a setting or an argument is out of range */
     ITZ_REFUSED_ROOM = 2,     /* a lent buffer or array is too short */
-    ITZ_REFUSED_LENGTH = 3,   /* a frame to be read does not have exactly its length */
+    ITZ_REFUSED_LENGTH = 3,   /* a frame to be read does not have exactly its length, or a tape
+                                 ends within a frame */
     ITZ_REFUSED_VERSION = 4,  /* the frame's version is not 01 */
     ITZ_REFUSED_CHANNEL = 5,  /* the frame is of another spacecraft or channel */
     ITZ_REFUSED_SPARE = 6,    /* a spare bit is 1; the usage of the count is not the one that is
@@ -95,7 +97,7 @@ enum itz_refusal {
     ITZ_REFUSED_MOMENT = 9,   /* wrong moment for this call */
     ITZ_REFUSED_RECORD = 10,  /* the record, or the octets held in the store, are not ones that
                                  the calls can have left there */
-    ITZ_REFUSED_LAST = 11,    /* a frame beyond the judge's last */
+    ITZ_REFUSED_LAST = 11,    /* a frame, alone or in a tape, beyond the judge's last */
     ITZ_REFUSED_TABLE = 12,   /* the entries make no relay table: they are more than 32, or one has
                                  an APID above 2046, or two are the same */
     ITZ_REFUSED_TRAILER = 13  /* the frame's trailer is not that of the octets before it */
@@ -499,7 +501,10 @@ ITZ_CALL uint64_t itz_show(const uint64_t *step, size_t step_len,
 
 /* ---- Judge -------------------------------------------------------------- */
 
-/* The judge's record, which starts as ITZ_JUDGE_START. */
+/*
+ * The judge's record, which starts as ITZ_JUDGE_START. The frames of a run are
+ * taken one by one or as tapes, in any turn.
+ */
 enum {
     ITZ_JUDGE_KIND,   /* 0 no frame yet, 1 sound so far, 2 faulty */
     ITZ_JUDGE_TALLY,  /* frames taken, 1 to 2^24 whatever the edition (kinds 1, 2) */
@@ -521,6 +526,25 @@ ITZ_CALL uint64_t itz_judge_frame(const uint64_t *settings, size_t settings_len,
                                   uint64_t *record, size_t record_len,
                                   uint8_t *store, size_t store_len,
                                   const uint8_t *frame, size_t frame_len);
+
+/*
+ * Takes a tape of a recorded run: any number of frames, none included, end to
+ * end. Each is read where it lies, zone + 8 octets, and zone + 10 with a trailer.
+ * Record and store are then those that itz_judge_frame leaves when the same
+ * frames are lent to it one by one in that order: a frame that an extractor would
+ * refuse with 4 to 7 or 13 is a fault of the run, and behind a fault only the
+ * tally grows.
+ *
+ * Of a refused tape no frame is taken. An empty tape is taken at any tally.
+ *
+ * Order of refusals: 1, 2, 10, 11, 3. 11 is a tape whose whole frames would bring
+ * the tally above 2^24, also where octets are left behind them; 3 is a tape that
+ * ends within a frame, which is no fault of the run here.
+ */
+ITZ_CALL uint64_t itz_judge_tape(const uint64_t *settings, size_t settings_len,
+                                 uint64_t *record, size_t record_len,
+                                 uint8_t *store, size_t store_len,
+                                 const uint8_t *tape, size_t tape_len);
 
 /*
  * Says how the run stands if it ends here. Record and store are only read.

@@ -3,7 +3,8 @@
  * outcome and every entry of an array is met by a call and has its name's number.
  * An array of exactly the named number of entries is long enough, and a shorter
  * one is refused; an answer is not written then. Counts are written and read at
- * every edition, and held to its width in every record.
+ * every edition, and held to its width in every record. What is judged of a tape
+ * is what is judged of its frames one by one.
  */
 #include "itzahuemo.h"
 
@@ -437,9 +438,19 @@ static void damages(void)
     each_is(ARRAY(put), 0);
 }
 
+/* Judges the frame, and as a tape of its own: the same refusal, the same record and the same store. */
 static uint64_t judged(uint64_t *record)
 {
-    return itz_judge_frame(ARRAY(settings), record, ITZ_JUDGE_NUMBERS, SIZED(store), SIZED(frame));
+    uint64_t same[ITZ_JUDGE_NUMBERS], refusal;
+    uint8_t same_store[LIMIT];
+
+    memcpy(same, record, sizeof same);
+    memcpy(same_store, store, LIMIT);
+    refusal = itz_judge_frame(ARRAY(settings), record, ITZ_JUDGE_NUMBERS, SIZED(store), SIZED(frame));
+    IS(itz_judge_tape(ARRAY(settings), ARRAY(same), SIZED(same_store), SIZED(frame)), refusal);
+    HOLDS(memcmp(same, record, sizeof same) == 0);
+    HOLDS(memcmp(same_store, store, LIMIT) == 0);
+    return refusal;
 }
 
 static void judging(void)
@@ -462,6 +473,172 @@ static void judging(void)
     IS(verdict[ITZ_VERDICT_INDEX], 1);
     record[ITZ_JUDGE_TALLY] = 1 << 24;
     IS(judged(record), ITZ_REFUSED_LAST);
+}
+
+#define FRAMES 3
+
+static uint8_t tape[FRAMES * (FRAME + TRAILER)];
+
+/* The sample's frames and one without packets, end to end, with this signalling octet. */
+static void lay_tape(uint8_t signalling)
+{
+    static const uint8_t idle[FRAME] = {
+        0x50, 0x83, 0, 0, 2, 0, 0x07, 0xFE, 0x55, 0x55, 0x55, 0x55, 0x55, 0x55, 0x55, 0x55, 0x55, 0x55};
+    sample(tape, 0, 5, signalling);
+    sample(tape + FRAME, 1, 5, signalling);
+    memcpy(tape + 2 * FRAME, idle, FRAME);
+    tape[2 * FRAME + 5] = signalling;
+}
+
+/* Judges so many octets of the tape. */
+static uint64_t judged_tape(uint64_t *record, size_t octets)
+{
+    return itz_judge_tape(ARRAY(settings), record, ITZ_JUDGE_NUMBERS, SIZED(store), tape, octets);
+}
+
+/* The same, refused: record and store are as they were. */
+static void tape_refused(uint64_t *record, size_t octets, uint64_t refusal)
+{
+    uint64_t before[ITZ_JUDGE_NUMBERS];
+    uint8_t kept[LIMIT];
+
+    memcpy(before, record, sizeof before);
+    memcpy(kept, store, LIMIT);
+    IS(judged_tape(record, octets), refusal);
+    HOLDS(memcmp(before, record, sizeof before) == 0);
+    HOLDS(memcmp(kept, store, LIMIT) == 0);
+}
+
+static void record_is(const uint64_t *record, uint64_t kind, uint64_t tally, uint64_t last, uint64_t held)
+{
+    IS(record[ITZ_JUDGE_KIND], kind);
+    IS(record[ITZ_JUDGE_TALLY], tally);
+    IS(record[ITZ_JUDGE_LAST], last);
+    IS(record[ITZ_JUDGE_HELD], held);
+}
+
+static void verdict_is(const uint64_t *record, uint64_t what, uint64_t index)
+{
+    uint64_t verdict[ITZ_VERDICT_NUMBERS];
+
+    IS(itz_judge_close(ARRAY(settings), record, ITZ_JUDGE_NUMBERS, SIZED(store), ARRAY(verdict)), ITZ_ACCEPTED);
+    IS(verdict[ITZ_VERDICT_WHAT], what);
+    IS(verdict[ITZ_VERDICT_INDEX], index);
+}
+
+/* An empty tape, the sample's frames in two tapes, and what is cut within a frame. */
+static void tapes(void)
+{
+    uint64_t record[ITZ_JUDGE_NUMBERS] = ITZ_JUDGE_START;
+
+    lay_tape(0);
+    IS(itz_judge_tape(ARRAY(settings), ARRAY(record), SIZED(store), NULL, 0), ITZ_ACCEPTED);
+    IS(judged_tape(record, 0), ITZ_ACCEPTED);
+    each_is(ARRAY(record), 0);
+    verdict_is(record, ITZ_PASS, 0);
+    for (size_t octets = 1; octets < FRAME; octets++)
+        tape_refused(record, octets, ITZ_REFUSED_LENGTH);
+    IS(judged_tape(record, FRAME), ITZ_ACCEPTED);
+    record_is(record, 1, 1, 0, 2);
+    HOLDS(memcmp(store, encapsulation, 2) == 0);
+    verdict_is(record, ITZ_FAULT, 1);
+    for (size_t octets = FRAME + 1; octets < 2 * FRAME; octets++)
+        tape_refused(record, octets, ITZ_REFUSED_LENGTH);
+    IS(itz_judge_tape(ARRAY(settings), ARRAY(record), SIZED(store), NULL, 0), ITZ_ACCEPTED);
+    record_is(record, 1, 1, 0, 2);
+    IS(itz_judge_tape(ARRAY(settings), ARRAY(record), SIZED(store), tape + FRAME, 2 * FRAME), ITZ_ACCEPTED);
+    record_is(record, 1, 3, 2, 0);
+    verdict_is(record, ITZ_PASS, 0);
+}
+
+/* The tape in two parts, cut before each frame and behind the last, against its frames one by one. */
+static void tape_is_its_frames(void)
+{
+    for (size_t cut = 0; cut <= FRAMES; cut++) {
+        uint64_t single[ITZ_JUDGE_NUMBERS] = ITZ_JUDGE_START, record[ITZ_JUDGE_NUMBERS] = ITZ_JUDGE_START;
+        uint8_t single_store[LIMIT];
+
+        memset(single_store, 0xA5, LIMIT);
+        memset(store, 0xA5, LIMIT);
+        for (size_t i = 0; i < FRAMES; i++)
+            IS(itz_judge_frame(ARRAY(settings), ARRAY(single), SIZED(single_store), tape + i * FRAME, FRAME), ITZ_ACCEPTED);
+        IS(judged_tape(record, cut * FRAME), ITZ_ACCEPTED);
+        IS(record[ITZ_JUDGE_TALLY], cut);
+        IS(itz_judge_tape(ARRAY(settings), ARRAY(record), SIZED(store), tape + cut * FRAME, (FRAMES - cut) * FRAME), ITZ_ACCEPTED);
+        IS(record[ITZ_JUDGE_TALLY], FRAMES);
+        HOLDS(memcmp(single, record, sizeof single) == 0);
+        HOLDS(memcmp(single_store, store, LIMIT) == 0);
+    }
+}
+
+/* The tape with each of its bits changed in turn; then with a fault in it, behind which only the tally grows. */
+static void faults_in_tapes(void)
+{
+    uint64_t record[ITZ_JUDGE_NUMBERS] = ITZ_JUDGE_START;
+    uint8_t kept[LIMIT];
+
+    lay_tape(0);
+    tape_is_its_frames();
+    for (size_t bit = 0; bit < 8 * FRAMES * FRAME; bit++) {
+        tape[bit / 8] ^= (uint8_t)(0x80 >> bit % 8);
+        tape_is_its_frames();
+        tape[bit / 8] ^= (uint8_t)(0x80 >> bit % 8);
+    }
+
+    tape[FRAME + 7] = 2;
+    IS(judged_tape(record, FRAMES * FRAME), ITZ_ACCEPTED);
+    record_is(record, 2, FRAMES, 1, 0);
+    verdict_is(record, ITZ_FAULT, 1);
+    memcpy(kept, store, LIMIT);
+    IS(judged_tape(record, FRAMES * FRAME), ITZ_ACCEPTED);
+    record_is(record, 2, 2 * FRAMES, 1, 0);
+    IS(judged_tape(record, 0), ITZ_ACCEPTED);
+    record_is(record, 2, 2 * FRAMES, 1, 0);
+    HOLDS(memcmp(kept, store, LIMIT) == 0);
+    tape_refused(record, FRAMES * FRAME - 1, ITZ_REFUSED_LENGTH);
+    verdict_is(record, ITZ_FAULT, 1);
+}
+
+/* All that a tape is refused for, at once and put right one by one; then each alone. */
+static void tapes_refused(void)
+{
+    uint64_t record[ITZ_JUDGE_NUMBERS] = {3, 0xFFFFFF, 0xFFFFFF, 0};
+    const size_t cut = 2 * FRAME + 1;
+
+    lay_tape(0);
+    settings[ITZ_SETTINGS_SPACECRAFT] = 256;
+    IS(itz_judge_tape(SHORT(settings), ARRAY(record), SHORT(store), tape, cut), ITZ_REFUSED_ROOM);
+    IS(itz_judge_tape(ARRAY(settings), SHORT(record), SHORT(store), tape, cut), ITZ_REFUSED_ROOM);
+    IS(itz_judge_tape(ARRAY(settings), ARRAY(record), SHORT(store), tape, cut), ITZ_REFUSED_SETTING);
+    settings[ITZ_SETTINGS_SPACECRAFT] = 66;
+    IS(itz_judge_tape(ARRAY(settings), ARRAY(record), SHORT(store), tape, cut), ITZ_REFUSED_ROOM);
+    record_is(record, 3, 0xFFFFFF, 0xFFFFFF, 0);
+    tape_refused(record, cut, ITZ_REFUSED_RECORD);
+    record[ITZ_JUDGE_KIND] = 1;
+    tape_refused(record, cut, ITZ_REFUSED_LAST);
+    record[ITZ_JUDGE_TALLY] = 1;
+    tape_refused(record, cut, ITZ_REFUSED_LENGTH);
+
+    settings[ITZ_SETTINGS_SPACECRAFT] = 256;
+    tape_refused(record, 2 * FRAME, ITZ_REFUSED_SETTING);
+    tape_refused(record, 0, ITZ_REFUSED_SETTING);
+    settings[ITZ_SETTINGS_SPACECRAFT] = 66;
+    IS(itz_judge_tape(SHORT(settings), ARRAY(record), SIZED(store), tape, 2 * FRAME), ITZ_REFUSED_ROOM);
+    IS(itz_judge_tape(ARRAY(settings), SHORT(record), SIZED(store), tape, 2 * FRAME), ITZ_REFUSED_ROOM);
+    IS(itz_judge_tape(ARRAY(settings), ARRAY(record), SHORT(store), tape, 2 * FRAME), ITZ_REFUSED_ROOM);
+    IS(itz_judge_tape(ARRAY(settings), ARRAY(record), SHORT(store), NULL, 0), ITZ_REFUSED_ROOM);
+    record_is(record, 1, 1, 0xFFFFFF, 0);
+    record[ITZ_JUDGE_HELD] = 2;
+    store[0] = 0x33;
+    tape_refused(record, 2 * FRAME, ITZ_REFUSED_RECORD);
+    tape_refused(record, 0, ITZ_REFUSED_RECORD);
+    record[ITZ_JUDGE_HELD] = 0;
+    record[ITZ_JUDGE_TALLY] = 0xFFFFFF;
+    tape_refused(record, 2 * FRAME, ITZ_REFUSED_LAST);
+    record[ITZ_JUDGE_TALLY] = 1;
+    tape_refused(record, 2 * FRAME - 1, ITZ_REFUSED_LENGTH);
+    IS(judged_tape(record, 2 * FRAME), ITZ_ACCEPTED);
+    record_is(record, 1, 3, 1, 0);
 }
 
 static void bits(void)
@@ -582,6 +759,38 @@ static void trailers(void)
     longer[FRAME + 1] ^= 1;
     IS(itz_extractor_step(ARRAY(settings), ARRAY(extractor), SIZED(store), SIZED(longer), ARRAY(step)), ITZ_ACCEPTED);
     IS(step[ITZ_STEP_WHAT], ITZ_STEP_PACKET);
+    set();
+}
+
+/* The sample's frames as a tape with trailers: as long as it has to be, and with each trailer wrong. */
+static void tapes_with_trailers(void)
+{
+    static const uint8_t ends[2][TRAILER] = {{0x2D, 0x75}, {0x43, 0x63}};
+    const size_t longer = FRAME + TRAILER;
+    uint64_t record[ITZ_JUDGE_NUMBERS] = ITZ_JUDGE_START, last[ITZ_JUDGE_NUMBERS] = {1, 0xFFFFFF, 0xFFFFFF, 0};
+
+    for (size_t i = 0; i <= 1; i++) {
+        sample(tape + i * longer, i == 1, 5, 0);
+        memcpy(tape + i * longer + FRAME, ends[i], TRAILER);
+    }
+    tape_refused(record, 2 * longer, ITZ_REFUSED_LENGTH);
+    tape_refused(last, 2 * longer, ITZ_REFUSED_LAST);
+    tape_refused(last, 2 * FRAME, ITZ_REFUSED_LAST);
+    settings[ITZ_SETTINGS_TRAILER] = 1;
+    tape_refused(record, 2 * FRAME, ITZ_REFUSED_LENGTH);
+    tape_refused(last, 2 * FRAME, ITZ_REFUSED_LENGTH);
+    tape_refused(last, 2 * longer - 1, ITZ_REFUSED_LENGTH);
+    tape_refused(last, 2 * longer, ITZ_REFUSED_LAST);
+    IS(judged_tape(record, 2 * longer), ITZ_ACCEPTED);
+    record_is(record, 1, 2, 1, 0);
+    verdict_is(record, ITZ_PASS, 0);
+    for (size_t i = 0; i <= 1; i++) {
+        uint64_t faulty[ITZ_JUDGE_NUMBERS] = ITZ_JUDGE_START;
+        tape[i * longer + FRAME] ^= 1;
+        IS(judged_tape(faulty, 2 * longer), ITZ_ACCEPTED);
+        record_is(faulty, 2, 2, i, 0);
+        tape[i * longer + FRAME] ^= 1;
+    }
     set();
 }
 
@@ -862,6 +1071,7 @@ static void recorded(uint64_t edition, uint64_t count)
     }
 
     HELD(record, refusal, itz_judge_close(ARRAY(settings), ARRAY(record), SIZED(store), ARRAY(verdict)));
+    HELD(record, refusal, itz_judge_tape(ARRAY(settings), ARRAY(record), SIZED(store), NULL, 0));
     HELD(record, refusal, judged(record));
 
     HELD(writer, refusal, itz_bits_write(ARRAY(bit_settings), ARRAY(writer), SIZED(four_bits), 4, SIZED(bit_frame)));
@@ -893,6 +1103,47 @@ static void last_judged(void)
         record[ITZ_JUDGE_TALLY] = 0x1000001;
         IS(judged(record), ITZ_REFUSED_RECORD);
     }
+}
+
+/* Tapes near the judge's last frame, and at it: the whole frames are counted before octets left behind them are asked for. */
+static void last_taped(uint64_t edition, uint64_t kind)
+{
+    const uint64_t before = kind == 1 ? wheels[edition] - 1 : 5;
+    uint64_t record[ITZ_JUDGE_NUMBERS] = {kind, 0xFFFFFE, before, 0};
+
+    set_edition(edition);
+    lay_tape(edition == ITZ_EDITION_CYCLE_USED ? 0x40 : 0);
+    tape_refused(record, 3 * FRAME, ITZ_REFUSED_LAST);
+    tape_refused(record, 3 * FRAME + 1, ITZ_REFUSED_LAST);
+    tape_refused(record, 3 * FRAME - 1, ITZ_REFUSED_LENGTH);
+    IS(judged_tape(record, 2 * FRAME), ITZ_ACCEPTED);
+    record_is(record, kind, 0x1000000, kind == 1 ? 1 : before, 0);
+
+    IS(judged_tape(record, 0), ITZ_ACCEPTED);
+    IS(itz_judge_tape(ARRAY(settings), ARRAY(record), SIZED(store), NULL, 0), ITZ_ACCEPTED);
+    record_is(record, kind, 0x1000000, kind == 1 ? 1 : before, 0);
+    tape_refused(record, 1, ITZ_REFUSED_LENGTH);
+    tape_refused(record, FRAME - 1, ITZ_REFUSED_LENGTH);
+    tape_refused(record, FRAME, ITZ_REFUSED_LAST);
+    tape_refused(record, FRAME + 1, ITZ_REFUSED_LAST);
+    record[ITZ_JUDGE_TALLY] = 0x1000001;
+    tape_refused(record, 0, ITZ_REFUSED_RECORD);
+
+    record[ITZ_JUDGE_TALLY] = 0xFFFFFF;
+    record[ITZ_JUDGE_LAST] = before;
+    tape_refused(record, 2 * FRAME, ITZ_REFUSED_LAST);
+    tape_refused(record, 2 * FRAME + 1, ITZ_REFUSED_LAST);
+    tape_refused(record, 2 * FRAME - 1, ITZ_REFUSED_LENGTH);
+    tape_refused(record, FRAME + 1, ITZ_REFUSED_LENGTH);
+    IS(judged_tape(record, FRAME), ITZ_ACCEPTED);
+    record_is(record, kind, 0x1000000, kind == 1 ? 0 : before, kind == 1 ? 2 : 0);
+}
+
+static void last_of_tapes(void)
+{
+    for (uint64_t edition = 0; edition < EDITIONS; edition++)
+        for (uint64_t kind = 1; kind <= 2; kind++)
+            last_taped(edition, kind);
 }
 
 /* An answer before a call, and behind one that is refused: 0, or with an array too short as it was. */
@@ -932,6 +1183,8 @@ static void settings_refused(size_t missing, uint64_t refusal)
     ANSWERED(step, refusal, itz_extractor_step(settings, lent, ARRAY(extractor), SIZED(store), SIZED(frame), ARRAY(step)));
     HOLDS(memcmp(extractor, walking, sizeof walking) == 0);
     IS(itz_judge_frame(settings, lent, ARRAY(record), SIZED(store), SIZED(frame)), refusal);
+    IS(itz_judge_tape(settings, lent, ARRAY(record), SIZED(store), SIZED(frame)), refusal);
+    IS(itz_judge_tape(settings, lent, ARRAY(record), SIZED(store), NULL, 0), refusal);
     ANSWERED(verdict, refusal, itz_judge_close(settings, lent, ARRAY(record), SIZED(store), ARRAY(verdict)));
     each_is(ARRAY(record), 0);
     ANSWERED(read, refusal, itz_bits_read(bit_settings, bits_lent, ARRAY(reader), SIZED(bit_frame), ARRAY(read)));
@@ -1007,6 +1260,7 @@ static void editions(void)
     lost_round_the_wheel();
     counts_in_records();
     last_judged();
+    last_of_tapes();
     editions_refused();
     editions_with_trailers();
     set();
@@ -1067,9 +1321,13 @@ int main(void)
     extracting();
     damages();
     judging();
+    tapes();
+    faults_in_tapes();
+    tapes_refused();
     bits();
     losses();
     trailers();
+    tapes_with_trailers();
     bit_trailers();
     editions();
     relays();

@@ -3,13 +3,13 @@
  *
  * A space packet and an encapsulation packet go through the multiplexer, and a
  * flush closes the last frame. The frames then go to an extractor, which hands
- * the packets back, and to a judge, which says whether the run is sound. A relay
- * table says where the space packet goes from there. Then a frame comes with a
- * wrong pointer, and the extractor says why it gives up the frame's zone. The
- * same run is sent in frames that end with a trailer, and a bit of it is changed.
- * It is sent by a newer spacecraft, whose counts have 28 bits, and 2^24 frames are
- * lost. Last come bits on a channel of their own, with a frame lost in the fill
- * between them.
+ * the packets back, and to a judge, which says whether the run is sound; they are
+ * kept on a tape, and the tape is judged in one call. A relay table says where the
+ * space packet goes from there. Then a frame comes with a wrong pointer, and the
+ * extractor says why it gives up the frame's zone. The same run is sent in frames
+ * that end with a trailer, and a bit of it is changed. It is sent by a newer
+ * spacecraft, whose counts have 28 bits, and 2^24 frames are lost. Last come bits
+ * on a channel of their own, with a frame lost in the fill between them.
  *
  * `make` beside this file builds it, and the library where it is not there yet.
  */
@@ -27,9 +27,14 @@
 
 static uint64_t settings[ITZ_SETTINGS_NUMBERS] = {66, 3, ZONE, LIMIT, 0x55, 0, ITZ_EDITION_FORMER};
 
-static uint8_t frames[FRAMES][FRAME + TRAILER];
-static size_t frame_len = FRAME; /* octets of a frame, by the settings */
-static size_t written;           /* frames that are full; the next one is in work */
+static uint8_t tape[FRAMES * (FRAME + TRAILER)]; /* the frames, end to end */
+static size_t frame_len = FRAME;                 /* octets of a frame, by the settings */
+static size_t written;                           /* frames that are full; the next one is in work */
+
+static uint8_t *frame_at(size_t index)
+{
+    return tape + index * frame_len;
+}
 
 /* Ends the program when a call is refused. */
 static void must(const char *call, uint64_t refusal)
@@ -47,7 +52,7 @@ static void frame_is_full(void)
 {
     printf("written");
     for (size_t i = 0; i < frame_len; i++)
-        printf(" %02X", frames[written][i]);
+        printf(" %02X", frame_at(written)[i]);
     printf("\n");
     written++;
 }
@@ -58,7 +63,7 @@ static void send_packet(uint64_t *mux, const uint8_t *packet, size_t size)
     uint64_t put[ITZ_PUT_NUMBERS];
     do {
         must("put", itz_mux_put(settings, ITZ_SETTINGS_NUMBERS, mux, ITZ_MUX_NUMBERS, packet, size,
-                                frames[written], frame_len, put, ITZ_PUT_NUMBERS));
+                                frame_at(written), frame_len, put, ITZ_PUT_NUMBERS));
         if (put[ITZ_PUT_FULL])
             frame_is_full();
     } while (!put[ITZ_PUT_TAKEN]);
@@ -68,7 +73,7 @@ static void flush(uint64_t *mux)
 {
     uint64_t flushed[ITZ_FLUSH_NUMBERS];
     must("flush", itz_mux_flush(settings, ITZ_SETTINGS_NUMBERS, mux, ITZ_MUX_NUMBERS,
-                                frames[written], frame_len, flushed, ITZ_FLUSH_NUMBERS));
+                                frame_at(written), frame_len, flushed, ITZ_FLUSH_NUMBERS));
     if (flushed[ITZ_FLUSH_WHAT] == ITZ_FLUSH_FRAME)
         frame_is_full();
 }
@@ -114,21 +119,38 @@ static void receive(uint64_t *extractor, uint8_t *store, const uint8_t *frame)
     }
 }
 
-/* Judges the run of all frames that were written. */
-static void judge(void)
+/* Says how a run that was judged stands. */
+static void show_verdict(const uint64_t *record, const uint8_t *store)
 {
-    static uint8_t store[LIMIT];
-    uint64_t record[ITZ_JUDGE_NUMBERS] = ITZ_JUDGE_START;
     uint64_t verdict[ITZ_VERDICT_NUMBERS];
-    for (size_t i = 0; i < written; i++)
-        must("judge", itz_judge_frame(settings, ITZ_SETTINGS_NUMBERS, record, ITZ_JUDGE_NUMBERS,
-                                      store, LIMIT, frames[i], frame_len));
     must("close", itz_judge_close(settings, ITZ_SETTINGS_NUMBERS, record, ITZ_JUDGE_NUMBERS,
                                   store, LIMIT, verdict, ITZ_VERDICT_NUMBERS));
     if (verdict[ITZ_VERDICT_WHAT] == ITZ_PASS)
         printf("pass\n");
     else
         printf("fault %" PRIu64 "\n", verdict[ITZ_VERDICT_INDEX]);
+}
+
+/* Judges the run of all frames that were written, as they come. */
+static void judge(void)
+{
+    static uint8_t store[LIMIT];
+    uint64_t record[ITZ_JUDGE_NUMBERS] = ITZ_JUDGE_START;
+    for (size_t i = 0; i < written; i++)
+        must("judge", itz_judge_frame(settings, ITZ_SETTINGS_NUMBERS, record, ITZ_JUDGE_NUMBERS,
+                                      store, LIMIT, frame_at(i), frame_len));
+    show_verdict(record, store);
+}
+
+/* Judges the same run afterwards, all of it in one call. */
+static void judge_tape(void)
+{
+    static uint8_t store[LIMIT];
+    uint64_t record[ITZ_JUDGE_NUMBERS] = ITZ_JUDGE_START;
+    must("tape", itz_judge_tape(settings, ITZ_SETTINGS_NUMBERS, record, ITZ_JUDGE_NUMBERS,
+                                store, LIMIT, tape, written * frame_len));
+    printf("tape ");
+    show_verdict(record, store);
 }
 
 /* ---- Relaying ----------------------------------------------------------- */
@@ -188,14 +210,15 @@ static void send_run(void)
     flush(mux);
 }
 
-/* Receives all frames that were written, and judges them. */
+/* Receives all frames that were written, and judges them and their tape. */
 static void receive_run(void)
 {
     static uint8_t store[LIMIT];
     uint64_t extractor[ITZ_EXTRACTOR_NUMBERS] = ITZ_EXTRACTOR_START;
     for (size_t i = 0; i < written; i++)
-        receive(extractor, store, frames[i]);
+        receive(extractor, store, frame_at(i));
     judge();
+    judge_tape();
 }
 
 int main(void)
@@ -207,14 +230,14 @@ int main(void)
     receive_run();
     must("load", itz_relay_load(paths, sizeof paths / sizeof paths[0], table, ITZ_RELAY_NUMBERS));
     relay(table, space, sizeof space);
-    frames[1][7] = 2; /* the second frame points at the octet 0x33, and no packet has its version, 001 */
+    frame_at(1)[7] = 2; /* the second frame points at the octet 0x33, and no packet has its version, 001 */
     receive_run();
 
     settings[ITZ_SETTINGS_TRAILER] = 1;
     frame_len = FRAME + TRAILER;
     send_run();
     receive_run();
-    frames[1][10] ^= 0x01; /* the second frame has one bit changed on its way */
+    frame_at(1)[10] ^= 0x01; /* the second frame has one bit changed on its way */
     receive_run();
 
     settings[ITZ_SETTINGS_TRAILER] = 0;
@@ -222,7 +245,7 @@ int main(void)
     frame_len = FRAME;
     send_run();
     receive_run();
-    frames[1][5] = 0x41; /* the second frame is of the next cycle: counts of 24 bits would say that none is lost */
+    frame_at(1)[5] = 0x41; /* the second frame is of the next cycle: counts of 24 bits would say that none is lost */
     receive_run();
 
     send_bits();
