@@ -10,9 +10,9 @@ A face on the proved library: what has to be remembered between calls is kept he
             print(event)
     print(judge(settings, frames))
 
-A `RelayTable` says where the packets go from there. With `trailer=True` the settings are those of a channel whose frames end with an
-error control field, and with `edition=Edition.CYCLE_USED` of one whose counts have 28 bits. Where a packet's header is damaged, a
-`Damage` says what is wrong with it.
+A `RelayTable` says where the packets go from there. Frames that were recorded end to end are judged in one call by `Judge.tape`. With
+`trailer=True` the settings are those of a channel whose frames end with an error control field, and with `edition=Edition.CYCLE_USED`
+of one whose counts have 28 bits. Where a packet's header is damaged, a `Damage` says what is wrong with it.
 
 An extractor, a judge, a multiplexer, a reader or a writer of bits or a relay table is used by one thread at a time; different ones may
 be used at the same time.

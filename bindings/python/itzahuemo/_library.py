@@ -32,7 +32,7 @@ class Refusal(enum.IntEnum):
 _WHY = {
     Refusal.SETTING: "a setting or an argument is out of range",
     Refusal.ROOM: "a lent buffer is too short",
-    Refusal.LENGTH: "the frame does not have exactly its length",
+    Refusal.LENGTH: "the frame does not have exactly its length, or the tape ends within a frame",
     Refusal.VERSION: "the frame's version is not 01",
     Refusal.CHANNEL: "the frame is of another spacecraft or channel",
     Refusal.SPARE: "a spare bit is 1, the count is of another edition, or a field that must be 0 is not",
@@ -40,7 +40,7 @@ _WHY = {
     Refusal.PACKET: "the packet is not well formed, or the data unit cannot be wrapped",
     Refusal.MOMENT: "the wrong moment for this call",
     Refusal.RECORD: "the record or the held octets cannot have been left by a call",
-    Refusal.LAST: "a frame beyond the judge's last",
+    Refusal.LAST: "a frame, alone or in a tape, beyond the judge's last",
     Refusal.TABLE: "more than 32 relay entries, an APID above 2,046, or two the same",
     Refusal.TRAILER: "the frame's trailer is not that of the octets before it",
 }
@@ -97,6 +97,7 @@ _CALLS = {
     "extractor_step": "aAOoA",
     "show": "aooA",
     "judge_frame": "aAOo",
+    "judge_tape": "aAOo",
     "judge_close": "aaoA",
     "bits_write": "aAonO",
     "bits_read": "aAoA",
@@ -104,9 +105,11 @@ _CALLS = {
     "relay_route": "naoOA",
 }
 
-_OCTETS: list[Any] = [ctypes.POINTER(ctypes.c_uint8), ctypes.c_size_t]
+# A `bytes` is lent as it lies, which only an untyped pointer allows.
+_READ: list[Any] = [ctypes.c_void_p, ctypes.c_size_t]
+_WRITTEN: list[Any] = [ctypes.POINTER(ctypes.c_uint8), ctypes.c_size_t]
 _NUMBERS: list[Any] = [ctypes.POINTER(ctypes.c_uint64), ctypes.c_size_t]
-_LENT = {"n": [ctypes.c_uint64], "o": _OCTETS, "O": _OCTETS, "a": _NUMBERS, "A": _NUMBERS}
+_LENT = {"n": [ctypes.c_uint64], "o": _READ, "O": _WRITTEN, "a": _NUMBERS, "A": _NUMBERS}
 
 _MOST = 2**64 - 1
 
@@ -156,10 +159,10 @@ def room(size: int) -> Any:
     return (ctypes.c_uint8 * size)()
 
 
-def octets(given: Octets) -> Any:
-    """Octets that a call only reads. A number is none, nor is a list of them: those raise `TypeError`."""
-    copied = memoryview(given).tobytes()
-    return (ctypes.c_uint8 * len(copied)).from_buffer_copy(copied)
+def octets(given: Octets) -> bytes:
+    """Octets that a call only reads, copied where they are no `bytes`. A number is none, nor is a list of them: those raise
+    `TypeError`."""
+    return given if isinstance(given, bytes) else memoryview(given).tobytes()
 
 
 def damage_of(number: int) -> Optional[Damage]:

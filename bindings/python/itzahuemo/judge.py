@@ -31,7 +31,7 @@ class Verdict:
 
 
 class Judge:
-    """Judges a recorded run, frame by frame."""
+    """Judges a recorded run, frame by frame or a tape of frames at a time."""
 
     def __init__(self, settings: Settings) -> None:
         self.settings = settings
@@ -41,6 +41,12 @@ class Judge:
     def frame(self, frame: Octets) -> None:
         """Takes the run's next frame, of any octets. One beyond the 16,777,216th raises `Refused`."""
         call("judge_frame", self.settings.numbers(), self._record, self._store, octets(frame))
+
+    def tape(self, tape: Octets) -> None:
+        """Takes the run's next frames, any number of them end to end, each of `settings.frame_length` octets; an empty tape has none. The
+        judge then stands as if they had been taken one by one. A tape with a frame beyond the 16,777,216th (`Refusal.LAST`), or one that
+        ends within a frame (`Refusal.LENGTH`), which is no fault of the run, raises `Refused`; then no frame of it is taken."""
+        call("judge_tape", self.settings.numbers(), self._record, self._store, octets(tape))
 
     def verdict(self) -> Verdict:
         """How the run stands if it ends here."""

@@ -17,6 +17,7 @@ from itzahuemo import (
     Extractor,
     Front,
     Header,
+    Judge,
     Multiplexer,
     Packet,
     Reason,
@@ -281,6 +282,57 @@ class Calls(unittest.TestCase):
         self.assertTrue(judge(SETTINGS, FRAMES))
         self.assertFalse(judge(SETTINGS, FRAMES[1:]))
 
+    def test_tapes(self) -> None:
+        tape = b"".join(FRAMES)
+        taking = Judge(SETTINGS)
+        taking.tape(b"")
+        self.assertTrue(taking.verdict())
+        for end in [*range(1, 18), *range(19, 36)]:
+            self.refused(Refusal.LENGTH, taking.tape, tape[:end])
+            self.assertTrue(taking.verdict())
+        taking.tape(memoryview(tape)[:18])
+        self.assertEqual(taking.verdict().fault, 1)
+        taking.tape(b"")
+        taking.tape(bytearray(tape[18:]))
+        self.assertTrue(taking.verdict())
+        taking.tape(tape)
+        self.assertEqual(taking.verdict().fault, 2)
+        taking.frame(FRAMES[0])
+        self.assertEqual(taking.verdict().fault, 2)
+
+    def test_tapes_against_frames(self) -> None:
+        for settings, frames in [(SETTINGS, FRAMES), (TRAILED, TRAILED_FRAMES)]:
+            for tape in with_a_bit_changed(b"".join(frames)):
+                first, second = tape[: settings.frame_length], tape[settings.frame_length :]
+                verdict = judge(settings, [first, second])
+                whole, ahead, behind = Judge(settings), Judge(settings), Judge(settings)
+                whole.tape(tape)
+                ahead.tape(first)
+                ahead.frame(second)
+                behind.frame(first)
+                behind.tape(second)
+                self.assertEqual([taking.verdict() for taking in [whole, ahead, behind]], [verdict] * 3)
+
+    def test_the_last_of_tapes(self) -> None:
+        """65,536 frames of nine octets, each as the frame before it, and so a fault from the second on."""
+        settings = Settings(66, 3, 1, 7)
+        frame = Multiplexer(settings).idle()
+        tape = frame * 65536
+        taking = Judge(settings)
+        for _ in range(255):
+            taking.tape(tape)
+        taking.tape(tape[18:])
+        self.refused(Refusal.LAST, taking.tape, tape[:28])
+        self.refused(Refusal.LAST, taking.tape, tape[:27])
+        self.refused(Refusal.LENGTH, taking.tape, tape[:26])
+        taking.tape(tape[:18])
+        taking.tape(b"")
+        self.refused(Refusal.LENGTH, taking.tape, tape[:8])
+        self.refused(Refusal.LAST, taking.tape, tape[:9])
+        self.refused(Refusal.LAST, taking.tape, tape[:10])
+        self.refused(Refusal.LAST, taking.frame, frame)
+        self.assertEqual(taking.verdict().fault, 1)
+
     def test_bits(self) -> None:
         settings = BitSettings(66, 3, 1)
         writer = BitWriter(settings)
@@ -478,6 +530,9 @@ class Calls(unittest.TestCase):
             (judge, SETTINGS, FRAMES[0]),
             (judge, SETTINGS, [[80, 131]]),
             (judge, SETTINGS, ["50"]),
+            (Judge.tape, Judge(SETTINGS), FRAMES),
+            (Judge.tape, Judge(SETTINGS), 18),
+            (Judge.tape, Judge(SETTINGS), "50"),
         ]
         for call, first, second in calls:
             with self.assertRaises(TypeError):
@@ -489,6 +544,8 @@ class Calls(unittest.TestCase):
         self.assertEqual([Refusal(number).name for number in range(1, 14)], names.split())
         for refusal in Refusal:
             self.assertIn(f"refused {int(refusal)}: ", str(Refused(refusal)))
+        self.assertIn(", or the tape ends within a frame", str(Refused(Refusal.LENGTH)))
+        self.assertEqual(str(Refused(Refusal.LAST)), "refused 11: a frame, alone or in a tape, beyond the judge's last")
         damaged = Refused(Refusal.PACKET, Damage.NOT_IDLE)
         self.assertEqual(str(damaged), "refused 8: damaged 2: a packet of one octet is not idle")
 

@@ -164,6 +164,17 @@ extern "C" {
         frame_len: usize,
     ) -> u64;
 
+    fn itz_judge_tape(
+        settings: *const u64,
+        settings_len: usize,
+        record: *mut u64,
+        record_len: usize,
+        store: *mut u8,
+        store_len: usize,
+        tape: *const u8,
+        tape_len: usize,
+    ) -> u64;
+
     fn itz_judge_close(
         settings: *const u64,
         settings_len: usize,
@@ -418,6 +429,26 @@ pub(crate) fn judge_frame(
             store.len(),
             frame.as_ptr(),
             frame.len(),
+        )
+    }
+}
+
+pub(crate) fn judge_tape(
+    settings: &[u64],
+    record: &mut [u64],
+    store: &mut [u8],
+    tape: &[u8],
+) -> u64 {
+    unsafe {
+        itz_judge_tape(
+            settings.as_ptr(),
+            settings.len(),
+            record.as_mut_ptr(),
+            record.len(),
+            store.as_mut_ptr(),
+            store.len(),
+            tape.as_ptr(),
+            tape.len(),
         )
     }
 }

@@ -11,7 +11,7 @@ pub enum Verdict {
     Fault(u64),
 }
 
-/// Judges a recorded run, frame by frame.
+/// Judges a recorded run, frame by frame or a tape of frames at a time.
 #[derive(Clone, Debug)]
 pub struct Judge {
     settings: Settings,
@@ -32,6 +32,35 @@ impl Judge {
             &mut self.record,
             &mut self.store,
             frame,
+        ))
+    }
+
+    /// Takes the run's next frames, any number of them end to end, each of [`Settings::frame_length`] octets; an empty tape has none.
+    /// The judge then stands as if they had been taken one by one. Refused is a tape with a frame beyond the 16,777,216th (`Last`), or
+    /// one that ends within a frame (`Length`), which is no fault of the run; then no frame of it is taken.
+    ///
+    /// ```
+    /// # fn main() -> Result<(), itzahuemo::Refusal> {
+    /// use itzahuemo::{Judge, Multiplexer, Refusal, Settings, Verdict};
+    ///
+    /// let settings = Settings::new(66, 3, 10, 1024)?;
+    /// let mut multiplexer = Multiplexer::new(settings);
+    /// let tape = [multiplexer.idle()?, multiplexer.idle()?].concat();
+    /// let mut judge = Judge::new(settings);
+    /// assert_eq!(judge.tape(&tape[..35]), Err(Refusal::Length));
+    /// judge.tape(&tape)?;
+    /// assert_eq!(judge.verdict(), Verdict::Pass);
+    /// judge.tape(&tape)?;
+    /// assert_eq!(judge.verdict(), Verdict::Fault(2));
+    /// # Ok(())
+    /// # }
+    /// ```
+    pub fn tape(&mut self, tape: &[u8]) -> Result<(), Refusal> {
+        Refusal::check(ffi::judge_tape(
+            &self.settings.numbers(),
+            &mut self.record,
+            &mut self.store,
+            tape,
         ))
     }
 

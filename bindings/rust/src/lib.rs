@@ -7,9 +7,10 @@
 #![doc = include_str!("../examples/sample.rs")]
 //! ```
 //!
-//! A table of [`relay`] says where the packets go from there. Frames that end with an error control field are those of
-//! [`Settings::with_trailer`] and [`BitSettings::with_trailer`]; frames whose counts have 28 bits are those of an [`Edition`]. Where a
-//! packet's header is damaged, a [`Damage`] says what is wrong with it.
+//! A table of [`relay`] says where the packets go from there. Frames that were recorded end to end are judged in one call by
+//! [`Judge::tape`]. Frames that end with an error control field are those of [`Settings::with_trailer`] and
+//! [`BitSettings::with_trailer`]; frames whose counts have 28 bits are those of an [`Edition`]. Where a packet's header is damaged, a
+//! [`Damage`] says what is wrong with it.
 #![warn(missing_docs)]
 
 mod bits;

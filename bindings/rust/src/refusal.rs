@@ -10,7 +10,7 @@ pub enum Refusal {
     Setting,
     /// A lent buffer is too short.
     Room,
-    /// The frame does not have exactly its length.
+    /// The frame does not have exactly its length, or the tape ends within a frame.
     Length,
     /// The frame's version is not 01.
     Version,
@@ -29,7 +29,7 @@ pub enum Refusal {
     Moment,
     /// The record or the held octets are not ones that the calls can have left.
     Record,
-    /// A frame beyond the judge's last.
+    /// A frame, alone or in a tape, beyond the judge's last.
     Last,
     /// The entries make no relay table: they are more than 32, or one has an APID above 2,046, or two are the same.
     Table,
@@ -99,7 +99,9 @@ impl fmt::Display for Refusal {
         let why = match self {
             Refusal::Setting => "a setting or an argument is out of range",
             Refusal::Room => "a lent buffer is too short",
-            Refusal::Length => "the frame does not have exactly its length",
+            Refusal::Length => {
+                "the frame does not have exactly its length, or the tape ends within a frame"
+            }
             Refusal::Version => "the frame's version is not 01",
             Refusal::Channel => "the frame is of another spacecraft or channel",
             Refusal::Spare => {
@@ -112,7 +114,7 @@ impl fmt::Display for Refusal {
             }
             Refusal::Moment => "the wrong moment for this call",
             Refusal::Record => "the record or the held octets cannot have been left by a call",
-            Refusal::Last => "a frame beyond the judge's last",
+            Refusal::Last => "a frame, alone or in a tape, beyond the judge's last",
             Refusal::Table => "more than 32 relay entries, an APID above 2,046, or two the same",
             Refusal::Trailer => "the frame's trailer is not that of the octets before it",
         };

@@ -328,6 +328,71 @@ fn runs_are_judged() {
 }
 
 #[test]
+fn tapes_are_judged() {
+    let frames = frames();
+    let tape = frames.concat();
+    let mut judge = Judge::new(settings());
+    assert_eq!(judge.tape(&[]), Ok(()));
+    assert_eq!(judge.verdict(), Verdict::Pass);
+    for end in (1..18).chain(19..36) {
+        assert_eq!(judge.tape(&tape[..end]), Err(Refusal::Length));
+        assert_eq!(judge.verdict(), Verdict::Pass);
+    }
+    assert_eq!(judge.tape(&tape[..18]), Ok(()));
+    assert_eq!(judge.verdict(), Verdict::Fault(1));
+    assert_eq!(judge.tape(&[]), Ok(()));
+    assert_eq!(judge.tape(&tape[18..]), Ok(()));
+    assert_eq!(judge.verdict(), Verdict::Pass);
+    assert_eq!(judge.tape(&tape), Ok(()));
+    assert_eq!(judge.verdict(), Verdict::Fault(2));
+    assert_eq!(judge.frame(&frames[0]), Ok(()));
+    assert_eq!(judge.verdict(), Verdict::Fault(2));
+}
+
+#[test]
+fn a_tape_is_judged_as_its_frames_are() {
+    for (settings, frames) in
+        [(settings(), frames()), (settings().with_trailer(true), TRAILED.map(Vec::from).to_vec())]
+    {
+        let length = settings.frame_length();
+        for tape in with_a_bit_changed(&frames.concat()) {
+            let verdict = judge(settings, tape.chunks(length));
+            let mut whole = Judge::new(settings);
+            assert_eq!(whole.tape(&tape).map(|()| whole.verdict()), verdict);
+            let mut parts = Judge::new(settings);
+            parts.tape(&tape[..length]).unwrap();
+            assert_eq!(parts.frame(&tape[length..]).map(|()| parts.verdict()), verdict);
+            let mut parts = Judge::new(settings);
+            parts.frame(&tape[..length]).unwrap();
+            assert_eq!(parts.tape(&tape[length..]).map(|()| parts.verdict()), verdict);
+        }
+    }
+}
+
+#[test]
+fn a_tape_goes_to_the_last_frame_and_no_further() {
+    // 65,536 frames of nine octets, each as the frame before it, and so a fault from the second on.
+    let settings = Settings::new(66, 3, 1, 7).unwrap();
+    let frame = Multiplexer::new(settings).idle().unwrap();
+    let tape = frame.repeat(1 << 16);
+    let mut judge = Judge::new(settings);
+    for _ in 0..255 {
+        assert_eq!(judge.tape(&tape), Ok(()));
+    }
+    assert_eq!(judge.tape(&tape[18..]), Ok(()));
+    assert_eq!(judge.tape(&tape[..28]), Err(Refusal::Last));
+    assert_eq!(judge.tape(&tape[..27]), Err(Refusal::Last));
+    assert_eq!(judge.tape(&tape[..26]), Err(Refusal::Length));
+    assert_eq!(judge.tape(&tape[..18]), Ok(()));
+    assert_eq!(judge.tape(&[]), Ok(()));
+    assert_eq!(judge.tape(&tape[..8]), Err(Refusal::Length));
+    assert_eq!(judge.tape(&tape[..9]), Err(Refusal::Last));
+    assert_eq!(judge.tape(&tape[..10]), Err(Refusal::Last));
+    assert_eq!(judge.frame(&frame), Err(Refusal::Last));
+    assert_eq!(judge.verdict(), Verdict::Fault(1));
+}
+
+#[test]
 fn bits_go_round() {
     let settings = BitSettings::new(66, 3, 1).unwrap();
     let mut writer = BitWriter::new(settings);
@@ -611,6 +676,9 @@ fn refusals_say_why() {
     let said = Refusal::Pointer.to_string();
     assert_eq!(said, "refused 7: the frame's pointer is one that cannot be");
     assert!(Refusal::Spare.to_string().contains("the count is of another edition"));
+    assert!(Refusal::Length.to_string().ends_with(", or the tape ends within a frame"));
+    let said = Refusal::Last.to_string();
+    assert_eq!(said, "refused 11: a frame, alone or in a tape, beyond the judge's last");
     let error: Box<dyn std::error::Error + Send + Sync> = Refusal::Table.into();
     assert!(error.to_string().starts_with("refused 12: "));
     let said = Refusal::Packet(None).to_string();
