@@ -1,6 +1,6 @@
 -- Demand 3: the judge's calls come to the rules' verdict, and the extractor's hear what the rules hear.
 -- Assumes nothing.
-use mathlib.Core.Path.{_≡_, refl, sym, ap, ap₂, _∙_}
+use mathlib.Core.Path.{_≡_, refl, sym, ap, _∙_}
 use mathlib.Core.List.{List, [], _∷_}
 use mathlib.Core.Bool.{true, false}
 use Prim.Native.Nat.{ℕ, suc, _+_, _≤_}
@@ -18,10 +18,9 @@ use Rattle.extractor.specs.declared.Extractor.the-variants.{Fresh}
 use Rattle.extractor.proofs.Listens.{entering-refusal, listen-heard}
 use Rattle.extractor.proofs.Settles.{Settles, steps-are-events}
 use Rattle.judge.specs.Judge.{opened, Verdict, pass, fault, close, judged, verdict}
-use Rattle.judge.specs.Calls.{counts-well, judge-reachable, close-says, closes-with, close-call, judge-calls}
+use Rattle.judge.specs.Calls.{counts-well, judge-reachable, Judging, close-says, closes-with, close-call, judge-calls}
 use Rattle.judge.specs.Tapes.{tape-calls, CutInto}
 use Rattle.judge.specs.Statements.{LeaveTheSame}
-use Rattle.judge.specs.declared.Judge.{Judge}
 use Rattle.judge.specs.declared.Judge.the-variants.{Open}
 use Rattle.judge.proofs.Faults.{no-reason, entered-events, Passes}
 use Rattle.judge.proofs.Runs.{run-ran, run-is-verdict}
@@ -141,7 +140,5 @@ demand-3 s store fs ok room few =
       only = d .only;
       handed-over = λ ps c lent wide. hands-over s lent fs ok wide ps c;
       in-tapes = λ ts c. taped s store fs ts ok room few c;
-      tapes-close = λ ts c.
-          let t = taped s store fs ts ok room few c in
-          ap₂ (λ (left : List ℕ) (j : Judge). close-call s left j) (t .same-store) (t .same-next);
+      tapes-close = λ ts c. ap (λ (k : Judging). close-call s (k .store) (k .next)) (taped s store fs ts ok room few c .same);
     }

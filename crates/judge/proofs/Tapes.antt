@@ -18,11 +18,11 @@ use Rattle.packets.specs.Packet.{end-to-end}
 use Rattle.frames.specs.Frame.{frame-length, Frames, most-frames}
 use Rattle.frames.specs.declared.Settings.{Settings}
 use Rattle.extractor.specs.Statements.{Fit}
-use Rattle.judge.specs.Calls.{tally-of, judge-reachable, past-last, frame-refusals, close-rows, judging, judge-answers, Calling, frame-call, RunCalls, calls, judge-calls}
+use Rattle.judge.specs.Calls.{tally-of, judge-reachable, past-last, frame-refusals, close-rows, judging, judge-answers, Calling, frame-call, RunCalls, calls, left-by, judge-calls}
 use Rattle.judge.specs.Tapes.{whole-frames, frames-in, tape-rows, tape-refusals, tape-call, tape-calls, CutInto}
 use Rattle.judge.specs.Statements.{CutIntoFrames, LeaveTheSame, AsOne, TapesAreFrames}
 use Rattle.judge.specs.declared.Judge.{Judge}
-use Rattle.judge.proofs.Accepting.{Checks, checks, checks-none}
+use Rattle.judge.proofs.Accepting.{Checks, checks, checked-close, checks-none}
 use Rattle.judge.proofs.Advances.{tally-most, verdict-from}
 use Rattle.judge.proofs.Answered.{numbered}
 use Rattle.judge.proofs.Rows.{refused-close, accepted-close}
@@ -66,7 +66,10 @@ module _ (s : Settings) (tape : List ℕ) where
   abbrev many : ℕ
   many = whole-frames s tape
 
-  pub its-frames : Frames s (frames-in s tape)
+  many-in : length (frames-in s tape) ≡ many
+  many-in = cut-many many size tape
+
+  its-frames : Frames s (frames-in s tape)
   its-frames = cut-each many size tape (div-mul-le-self (length tape) size)
 
   -- any frames that lie there, with a rest that is less than a frame, are so many
@@ -75,9 +78,9 @@ module _ (s : Settings) (tape : List ℕ) where
       let l : length tape ≡ length fs * size + length other = omega (arith, ap length e, length-append (end-to-end fs) other, all-long size fs whole) in
       sym (div-eq-of-lt-le size (omega arith) (omega arith))
 
-  pub cut-into-frames : CutIntoFrames s tape
+  cut-into-frames : CutIntoFrames s tape
   cut-into-frames = record {
-    so-many = cut-many many size tape;
+    so-many = many-in;
     each = its-frames;
     rest = drop (many * size) tape;
     less = omega (arith, length-drop (many * size) tape, div-add-mod' (length tape) size, mod-lt (length tape) (some-octets s));
@@ -92,39 +95,33 @@ module _ (s : Settings) (tape : List ℕ) where
 
 -- whole frames, and those of what lies behind them
 module _ (s : Settings) (a b : List ℕ) (whole : length a % frame-length s ≡ 0) where
-  abbrev its-size : ℕ
-  its-size = frame-length s
+  long : length (a ++ b) ≡ whole-frames s a * frame-length s + length b
+  long = omega (arith, length-append a b, div-add-mod' (length a) (frame-length s), whole)
 
-  long : length (a ++ b) ≡ whole-frames s a * its-size + length b
-  long = omega (arith, length-append a b, div-add-mod' (length a) its-size, whole)
-
-  pub many-behind : whole-frames s (a ++ b) ≡ whole-frames s a + whole-frames s b
+  many-behind : whole-frames s (a ++ b) ≡ whole-frames s a + whole-frames s b
   many-behind = rw long (mul-add-div-right (some-octets s) (whole-frames s a) (length b))
 
-  pub rest-behind : length (a ++ b) % its-size ≡ length b % its-size
-  rest-behind = rw long (mul-add-mod-self-right (whole-frames s a) its-size (length b))
+  rest-behind : length (a ++ b) % frame-length s ≡ length b % frame-length s
+  rest-behind = rw long (mul-add-mod-self-right (whole-frames s a) (frame-length s) (length b))
 
-  pub frames-behind : frames-in s (a ++ b) ≡ frames-in s a ++ frames-in s b
+  frames-behind : frames-in s (a ++ b) ≡ frames-in s a ++ frames-in s b
   frames-behind =
-      ap (λ (n : ℕ). cut n its-size (a ++ b)) many-behind
-      ∙ cut-behind (whole-frames s a) (whole-frames s b) its-size a b (omega (arith, div-add-mod' (length a) its-size, whole))
+      ap (λ (n : ℕ). cut n (frame-length s) (a ++ b)) many-behind
+      ∙ cut-behind (whole-frames s a) (whole-frames s b) (frame-length s) a b (omega (arith, div-add-mod' (length a) (frame-length s), whole))
 
 -- ---- calls behind others
 
-module _ (call : Calling) (s : Settings) where
-  next-behind : (store : List ℕ) (j : Judge) (fs gs : List (List ℕ))
-      → calls call s store j (fs ++ gs) .next ≡ calls call s (calls call s store j fs .store) (calls call s store j fs .next) gs .next
-  unfolding calls
-  next-behind store j [] gs = refl
-  next-behind store j (f ∷ fs) gs = next-behind (call s store j f .store) (call s store j f .next) fs gs
-
-  store-behind : (store : List ℕ) (j : Judge) (fs gs : List (List ℕ))
-      → calls call s store j (fs ++ gs) .store ≡ calls call s (calls call s store j fs .store) (calls call s store j fs .next) gs .store
-  unfolding calls
-  store-behind store j [] gs = refl
-  store-behind store j (f ∷ fs) gs = store-behind (call s store j f .store) (call s store j f .next) fs gs
+calls-behind : (call : Calling) (s : Settings) (store : List ℕ) (j : Judge) (fs gs : List (List ℕ))
+    → left-by (calls call s store j (fs ++ gs)) ≡ left-by (calls call s (calls call s store j fs .store) (calls call s store j fs .next) gs)
+unfolding calls
+calls-behind call s store j [] gs = refl
+calls-behind call s store j (f ∷ fs) gs = calls-behind call s (call s store j f .store) (call s store j f .next) fs gs
 
 -- ---- a tape that no row refuses
+
+tape-numbered : (s : Settings) (store : List ℕ) (j : Judge) (tape : List ℕ) → tape-call s store j tape .refusal ≡ first (tape-refusals s store j tape)
+unfolding tape-call
+tape-numbered s store j tape = numbered (tape-refusals s store j tape) store j _
 
 pub record Plays (s : Settings) (store : List ℕ) (j : Judge) (tape : List ℕ) : Type 0 where
   pub checked-well : Checks s store j
@@ -172,18 +169,17 @@ module _ {s : Settings} {store : List ℕ} {j : Judge} {tape : List ℕ} (p : Pl
       checks-none (tape-rows s j tape) (p .checked-well)
       ∙ rw (le-ltb most-frames (tally-of j + whole-frames s tape) (p .few), p .whole)
 
-  pub tape-answered : tape-call s store j tape ≡ judge-answers 0 (judging (singly s store j tape .next) (singly s store j tape .store))
+  tape-answered : tape-call s store j tape ≡ judge-answers 0 (left-by (singly s store j tape))
   unfolding tape-call
   tape-answered = rw tape-unrefused
 
   pub tape-ran : Ran s store (tally-of j + whole-frames s tape) (verdict-from s store j (frames-in s tape)) (singly s store j tape)
   tape-ran =
       let c = p .checked-well in
-      let n : length (frames-in s tape) ≡ whole-frames s tape = cut-many (whole-frames s tape) (frame-length s) tape in
-      rw n at (judge-ran s store j (frames-in s tape) (c .ranged) (c .room) (c .reached) (rw n (p .few)))
+      rw (many-in s tape) at (judge-ran s store j (frames-in s tape) (c .ranged) (c .room) (c .reached) (rw (many-in s tape) (p .few)))
 
   -- what the next call finds
-  pub checked-after : Checks s (singly s store j tape .store) (singly s store j tape .next)
+  checked-after : Checks s (singly s store j tape .store) (singly s store j tape .next)
   checked-after = record {
     ranged = p .checked-well .ranged;
     room = omega (arith, p .checked-well .room, tape-ran .same-room);
@@ -192,24 +188,24 @@ module _ {s : Settings} {store : List ℕ} {j : Judge} {tape : List ℕ} (p : Pl
 
 -- ---- what tapes come to
 
-module _ (s : Settings) (store : List ℕ) (j : Judge) where
-  none-in : frames-in s [] ≡ []
-  unfolding cut
-  none-in = ap (λ (n : ℕ). cut n (frame-length s) []) (zero-div (frame-length s))
+none-in : (s : Settings) → frames-in s [] ≡ []
+unfolding cut
+none-in s = ap (λ (n : ℕ). cut n (frame-length s) []) (zero-div (frame-length s))
 
+module _ (s : Settings) (store : List ℕ) (j : Judge) where
   tape-none : tape-call s store j [] ≡ judge-answers (first (close-rows s store j)) (judging j store)
   unfolding tape-call tape-refusals calls close-rows
   tape-none =
       test (eqb (first (close-rows s store j)) 0)
       (λ t.
       let e : first (close-rows s store j) ≡ 0 = eqb-true (first (close-rows s store j)) 0 t in
-      let c : Checks s store j = checks s store j [] e .0 in
+      let c : Checks s store j = checked-close s store j e in
       let p : Plays s store j [] = record {
         checked-well = c;
         few = omega (arith, zero-div (frame-length s), tally-most s store j (c .reached));
         whole = zero-mod (frame-length s);
       } in
-      tape-answered p ∙ rw (none-in, e) refl)
+      tape-answered p ∙ rw (none-in s, e) refl)
       (λ t. rw (← (refused-close s store j refl (tape-rows s j []) (eqb-false (first (close-rows s store j)) 0 t)), t) refl)
 
   module _ (f : List ℕ) (right : length f ≡ frame-length s) where
@@ -231,8 +227,7 @@ module _ (s : Settings) (store : List ℕ) (j : Judge) where
 
   module _ (a b : List ℕ) (taken : tape-call s store j a .refusal ≡ 0) where
     first-played : Plays s store j a
-    unfolding tape-call
-    first-played = plays s store j a (sym (numbered (tape-refusals s store j a) store j _) ∙ taken)
+    first-played = plays s store j a (sym (tape-numbered s store j a) ∙ taken)
 
     abbrev left : RunCalls
     left = singly s store j a
@@ -248,48 +243,35 @@ module _ (s : Settings) (store : List ℕ) (j : Judge) where
         ∙ ap₂ (λ (n r : ℕ). first (row 11 (ltb most-frames n) ∷ row 3 (not (eqb r 0)) ∷ [])) tally (sym (rest-behind s a b (p .whole)))
         ∙ sym (checks-none _ (p .checked-well))
 
-    both-refusal : tape-call s store j (a ++ b) .refusal ≡ first (tape-refusals s store j (a ++ b))
-    unfolding tape-call
-    both-refusal = numbered (tape-refusals s store j (a ++ b)) store j _
-
-    second-refusal : tape-call s (left .store) (left .next) b .refusal ≡ first (tape-refusals s (left .store) (left .next) b)
-    unfolding tape-call
-    second-refusal = numbered (tape-refusals s (left .store) (left .next) b) (left .store) (left .next) _
-
     -- and what it leaves where they refuse neither is what both leave
     both-played : first (tape-refusals s store j (a ++ b)) ≡ 0 → tape-call s (left .store) (left .next) b ≡ tape-call s store j (a ++ b)
     both-played none =
         let as-one : frames-in s (a ++ b) ≡ frames-in s a ++ frames-in s b = frames-behind s a b (first-played .whole) in
         tape-answered (plays s (left .store) (left .next) b (rows-behind ∙ none))
-        ∙ ap₂ (λ (k : Judge) (o : List ℕ). judge-answers 0 (judging k o))
-        (sym (next-behind frame-call s store j (frames-in s a) (frames-in s b)) ∙ ap (λ (fs : List (List ℕ)). judge-calls s store j fs .next) (sym as-one))
-        (sym (store-behind frame-call s store j (frames-in s a) (frames-in s b)) ∙ ap (λ (fs : List (List ℕ)). judge-calls s store j fs .store) (sym as-one))
+        ∙ ap (judge-answers 0)
+        (sym (calls-behind frame-call s store j (frames-in s a) (frames-in s b)) ∙ ap (λ (fs : List (List ℕ)). left-by (judge-calls s store j fs)) (sym as-one))
         ∙ sym (tape-answered (plays s store j (a ++ b) none))
 
     tape-behind : AsOne (tape-call s (tape-call s store j a .store) (tape-call s store j a .next) b) (tape-call s store j (a ++ b))
     tape-behind =
         rw (tape-answered first-played)
-        (record { same-refusal = second-refusal ∙ rows-behind ∙ sym both-refusal; same = λ e. both-played (sym both-refusal ∙ e) })
+        (record {
+          same-refusal = tape-numbered s (left .store) (left .next) b ∙ rows-behind ∙ sym (tape-numbered s store j (a ++ b));
+          same = λ e. both-played (sym (tape-numbered s store j (a ++ b)) ∙ e);
+        })
 
 nothing : (os : List ℕ) → length os ≡ 0 → os ≡ []
 nothing [] e = refl
 nothing (o ∷ os) e = absurd (omega arith)
 
 module _ (s : Settings) (store : List ℕ) (j : Judge) (tape : List ℕ) (none : first (close-rows s store j) ≡ 0) where
-  its-refusal : tape-call s store j tape .refusal ≡ first (tape-refusals s store j tape)
-  unfolding tape-call
-  its-refusal = numbered (tape-refusals s store j tape) store j _
-
-  its-many : length (frames-in s tape) ≡ whole-frames s tape
-  its-many = cut-many (whole-frames s tape) (frame-length s) tape
-
   tape-past : most-frames < tally-of j + length (frames-in s tape) → tape-call s store j tape .refusal ≡ 11
-  tape-past h = its-refusal ∙ sym (past-refused s store j tape refl none refl refl (lt-ltb most-frames (tally-of j + whole-frames s tape) (omega (arith, its-many))))
+  tape-past h = tape-numbered s store j tape ∙ sym (past-refused s store j tape refl none refl refl (lt-ltb most-frames (tally-of j + whole-frames s tape) (omega (arith, many-in s tape))))
 
   tape-torn : tally-of j + length (frames-in s tape) ≤ most-frames → (end-to-end (frames-in s tape) ≡ tape → ⊥) → tape-call s store j tape .refusal ≡ 3
   tape-torn few h =
       let c : CutIntoFrames s tape = cut-into-frames s tape in
-      its-refusal ∙ sym (rest-refused s store j tape refl none refl refl (le-ltb most-frames (tally-of j + whole-frames s tape) (omega (arith, its-many)))
+      tape-numbered s store j tape ∙ sym (rest-refused s store j tape refl none refl refl (le-ltb most-frames (tally-of j + whole-frames s tape) (omega (arith, many-in s tape)))
       (λ e. h (sym (append-nil (end-to-end (frames-in s tape))) ∙ ap (λ (os : List ℕ). end-to-end (frames-in s tape) ++ os) (sym (nothing (c .rest) (c .so-long ∙ e))) ∙ c .laid-again)))
 
 -- tapes from any record, and the frames in them
@@ -297,7 +279,7 @@ played-all : (s : Settings) (store : List ℕ) (j : Judge) (ts : List (List ℕ)
     → All (λ (t : List ℕ). length t % frame-length s ≡ 0) ts → tally-of j + whole-frames s (end-to-end ts) ≤ most-frames
     → LeaveTheSame (tape-calls s store j ts) (singly s store j (end-to-end ts))
 unfolding calls
-played-all s store j [] c whole few = rw (none-in s store j) (record { tapes-taken = tt; same-next = refl; same-store = refl })
+played-all s store j [] c whole few = rw (none-in s) (record { tapes-taken = tt; same = refl })
 played-all s store j (t ∷ ts) c whole few =
     let on : List ℕ = end-to-end ts in
     let many = many-behind s t on (whole .0) in
@@ -306,8 +288,7 @@ played-all s store j (t ∷ ts) c whole few =
     let r = played-all s (left .store) (left .next) ts (checked-after p) (whole .1) (omega (arith, tape-ran p .counted)) in
     rw (tape-answered p, frames-behind s t on (whole .0)) (record {
       tapes-taken = (refl, r .tapes-taken);
-      same-next = r .same-next ∙ sym (next-behind frame-call s store j (frames-in s t) (frames-in s on));
-      same-store = r .same-store ∙ sym (store-behind frame-call s store j (frames-in s t) (frames-in s on));
+      same = r .same ∙ sym (calls-behind frame-call s store j (frames-in s t) (frames-in s on));
     })
 
 -- a run's frames are those in its tapes
@@ -333,7 +314,7 @@ tapes-anywhere : (s : Settings) (store : List ℕ) (j : Judge) (fs ts : List (Li
     → tally-of j + length fs ≤ most-frames → CutInto s fs ts → LeaveTheSame (tape-calls s store j ts) (judge-calls s store j fs)
 tapes-anywhere s store j fs ts (ok, room) reach few c =
     let e : fs ≡ frames-in s (end-to-end ts) = cut-same s fs ts c in
-    let many : length fs ≡ whole-frames s (end-to-end ts) = ap length e ∙ cut-many (whole-frames s (end-to-end ts)) (frame-length s) (end-to-end ts) in
+    let many : length fs ≡ whole-frames s (end-to-end ts) = ap length e ∙ many-in s (end-to-end ts) in
     subst (λ (gs : List (List ℕ)). LeaveTheSame (tape-calls s store j ts) (judge-calls s store j gs)) (sym e)
     (played-all s store j ts (record { ranged = ok; room = room; reached = reach }) (c .tapes-whole) (omega arith))
 

@@ -1,7 +1,7 @@
 -- The statements about the judge's calls, proved.
 -- Assumes nothing.
 use mathlib.Core.Path.{refl}
-use Rattle.judge.specs.Calls.{frame-refusals, judging, judge-frame, frame-call, judge-calls}
+use Rattle.judge.specs.Calls.{frame-refusals, judge-frame, frame-call, left-by, judge-calls}
 use Rattle.judge.specs.Tapes.{frames-in, tape-refusals, tape-call}
 use Rattle.judge.specs.Statements.{Keeps, KeepsToTheTest, ComesToTheVerdict}
 use Rattle.judge.proofs.Accepting.{accepts}
@@ -21,7 +21,7 @@ frame-keeps =
 tape-keeps : Keeps tape-call
 unfolding tape-call
 tape-keeps =
-    keeps-by tape-refusals (λ s store j tape. let r = judge-calls s store j (frames-in s tape) in judging (r .next) (r .store)) tape-call (λ s store j tape. refl)
+    keeps-by tape-refusals (λ s store j tape. left-by (judge-calls s store j (frames-in s tape))) tape-call (λ s store j tape. refl)
     (λ s store j tape e.
     let r = tape-ran (plays s store j tape e) in
     record { reach = r .reach; same-room = r .same-room; beyond = r .beyond })

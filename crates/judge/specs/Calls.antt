@@ -167,6 +167,10 @@ calls call s store j (f ∷ fs) =
     let r : RunCalls = calls call s (a .store) (a .next) fs in
     record { refusals = a .refusal ∷ r .refusals; next = r .next; store = r .store }
 
+-- the record and the store that they leave
+abbrev pub left-by : RunCalls → Judging
+left-by r = judging (r .next) (r .store)
+
 -- with each frame
 abbrev pub judge-calls : Settings → List ℕ → Judge → List (List ℕ) → RunCalls
 judge-calls = calls frame-call

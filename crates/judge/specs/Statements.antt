@@ -10,7 +10,7 @@ use Rattle.frames.specs.Frame.{frame-length, Frames, most-frames}
 use Rattle.frames.specs.declared.Settings.{Settings}
 use Rattle.extractor.specs.Statements.{Fit}
 use Rattle.judge.specs.Judge.{verdict}
-use Rattle.judge.specs.Calls.{tally-of, judge-reachable, close-rows, judging, JudgeSaid, judge-answers, Calling, frame-call, close-says, closes-with, RunCalls, judge-calls, judge-run}
+use Rattle.judge.specs.Calls.{tally-of, judge-reachable, close-rows, judging, JudgeSaid, judge-answers, Calling, frame-call, close-says, closes-with, RunCalls, left-by, judge-calls, judge-run}
 use Rattle.judge.specs.Tapes.{whole-frames, frames-in, tape-call, tape-calls, CutInto}
 use Rattle.judge.specs.declared.Judge.{Judge}
 
@@ -51,8 +51,7 @@ pub record CutIntoFrames (s : Settings) (tape : List ℕ) : Type 0 where
 -- none of the calls with tapes is refused, and they leave what those with frames leave
 pub record LeaveTheSame (tapes frames : RunCalls) : Type 0 where
   pub tapes-taken : All (λ n. n ≡ 0) (tapes .refusals)
-  pub same-next : tapes .next ≡ frames .next
-  pub same-store : tapes .store ≡ frames .store
+  pub same : left-by tapes ≡ left-by frames
 
 -- The second tape is refused for what the tape of both is refused for; where it is not, it leaves what that leaves.
 pub record AsOne (second both : JudgeSaid) : Type 0 where

@@ -9,7 +9,7 @@ use Rattle.octets.specs.Basics.{All, cut, Row, row}
 use Rattle.packets.specs.Packet.{end-to-end}
 use Rattle.frames.specs.Frame.{frame-length, Frames}
 use Rattle.frames.specs.declared.Settings.{Settings}
-use Rattle.judge.specs.Calls.{checked, past-last, judging, unless-refused, Calling, CloseSaid, RunCalls, calls, judge-calls, run-by}
+use Rattle.judge.specs.Calls.{checked, past-last, unless-refused, Calling, CloseSaid, RunCalls, calls, left-by, judge-calls, run-by}
 use Rattle.judge.specs.declared.Judge.{Judge}
 
 -- the whole frames in its octets
@@ -28,11 +28,9 @@ tape-rows s j tape = past-last j (whole-frames s tape) ∷ row 3 (not (eqb (leng
 unfoldable pub tape-refusals : Settings → List ℕ → Judge → List ℕ → List Row
 tape-refusals s store j tape = checked s store j (tape-rows s j tape)
 
--- what the rules give: a refusal, or what a call with each of its frames leaves, in order
+-- what the rules give: a refusal, or what the calls with its frames leave
 unfoldable pub tape-call : Calling
-tape-call s store j tape =
-    let r : RunCalls = judge-calls s store j (frames-in s tape) in
-    unless-refused (tape-refusals s store j tape) store j (judging (r .next) (r .store))
+tape-call s store j tape = unless-refused (tape-refusals s store j tape) store j (left-by (judge-calls s store j (frames-in s tape)))
 
 -- a run in tapes
 abbrev pub tape-calls : Settings → List ℕ → Judge → List (List ℕ) → RunCalls

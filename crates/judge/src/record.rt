@@ -1,8 +1,8 @@
 // The judge's record: whether the rules can reach it, and the verdict that it comes to.
 ghost use mathlib.Core.Path.{_≡_};
 ghost use mathlib.Core.Bool.{true};
-ghost use Rattle.octets.specs.Basics.{first};
 ghost use Prim.Native.Nat.{_≤_};
+ghost use Rattle.octets.specs.Basics.{first};
 ghost use Rattle.frames.specs.Frame.{in-range, most-frames};
 ghost use Rattle.judge.specs.Calls.{tally-of, past-last, counts-well, extractor-of, close-rows, judge-close, closes-with};
 use crate::Closed;

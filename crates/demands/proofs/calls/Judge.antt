@@ -8,7 +8,7 @@ use denote.Ref.{now}
 use Rattle.octets.specs.Basics.{Row, first}
 use Rattle.octets.proofs.Tests.{told-apart}
 use Rattle.judge.specs.Judge.{Verdict, pass, fault}
-use Rattle.judge.specs.Calls.{Judging, judging, JudgeSaid, judge-answers, judge-says, frame-refusals, unless-refused, judge-frame, frame-call, judge-close, close-says, closes-with, close-rows, close-call, RunCalls, judge-calls}
+use Rattle.judge.specs.Calls.{Judging, judging, JudgeSaid, judge-answers, judge-says, frame-refusals, unless-refused, judge-frame, frame-call, judge-close, close-says, closes-with, close-rows, close-call, left-by, judge-calls}
 use Rattle.judge.specs.Tapes.{frames-in, tape-refusals, tape-call}
 use Rattle.judge.specs.declared.Judge.{Judge}
 use Rattle.judge.specs.declared.Judged.{Judged}
@@ -46,9 +46,7 @@ pub of-judge : OfJudge
 unfolding frame-call tape-call close-call close-says
 of-judge = record {
   frame = λ κs s j store f. judges (frame-refusals s (now store) j) (now store) j (judge-frame s (now store) j (now f));
-  tape = λ κs s j store t.
-      let r : RunCalls = judge-calls s (now store) j (frames-in s (now t)) in
-      judges (tape-refusals s (now store) j (now t)) (now store) j (judging (r .next) (r .store));
+  tape = λ κs s j store t. judges (tape-refusals s (now store) j (now t)) (now store) j (left-by (judge-calls s (now store) j (frames-in s (now t))));
   close = λ κs s j lent-store.
       let store : List ℕ = now lent-store in
       promised close-says (λ a. a .refusal) (close-rows s store j) (close-says (closes-with (judge-close j))) _

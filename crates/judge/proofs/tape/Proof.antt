@@ -1,7 +1,6 @@
 -- `tape` meets its contract: the first row that holds refuses, and else its frames are judged.
 -- Assumes nothing.
-use mathlib.Core.Path.{_≡_, refl, sym, ap, ap₂, _∙_}
-use mathlib.Core.List.{List}
+use mathlib.Core.Path.{_≡_, refl, sym, ap, _∙_}
 use Prim.Native.Nat.{ℕ, _+_}
 use native.Mathlib.Omega.{arith}
 use borrow.Author.Tests.{ne-eqb}
@@ -9,9 +8,8 @@ use Rattle.octets.specs.Basics.{first}
 use Rattle.trailer.proofs.Setting.{extra-small}
 use Rattle.frames.specs.Frame.{frame-length}
 use Rattle.frames.proofs.Settled.{settled}
-use Rattle.judge.specs.Calls.{judging, judge-answers}
+use Rattle.judge.specs.Calls.{judge-answers}
 use Rattle.judge.specs.Tapes.{tape-rows, tape-refusals, tape-call}
-use Rattle.judge.specs.declared.Judge.{Judge}
 use Rattle.judge.proofs.Accepting.{Checks, checked-close}
 use Rattle.judge.proofs.Advances.{tally-most}
 use Rattle.judge.proofs.Rows.{refused-close}
@@ -90,8 +88,7 @@ returns-4 : tie.Need-returns-4
 unfolding tape-call
 returns-4 c =
     let at-played = c .before .before in
-    rw (none (at-played .before .before))
-    (ap₂ (λ (j : Judge) (store : List ℕ). judge-answers 0 (judging j store)) (at-played .played .ensures .0) (at-played .played .ensures .1))
+    rw (none (at-played .before .before)) (ap (judge-answers 0) (at-played .played .ensures))
 
 pub tape-spec : {M : Type 1} → statement M
 tape-spec =

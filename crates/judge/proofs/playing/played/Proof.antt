@@ -1,9 +1,9 @@
 -- `playing::played` meets its contract: each turn judges the first of the frames that are left.
 -- Assumes nothing.
-use Prim.Native.Nat.{_+_, _-_, _≤_}
+use Prim.Native.Nat.{_+_, _-_, _≤_, _<_}
 use native.Mathlib.Omega.{arith}
 use lib.ListN.{length}
-use Rattle.judge.specs.Calls.{judge-calls}
+use Rattle.judge.specs.Calls.{left-by, judge-calls}
 use Rattle.judge.specs.Tapes.{frames-in}
 use Rattle.judge.proofs.Tapes.{some-octets, plays}
 use Rattle.judge.proofs.Winding.{Winds, winds-first, winds-last, frame-there, frame-taken, winds-to}
@@ -12,7 +12,7 @@ use Rattle.judge.proofs.playing.played.Statement.{statement}
 use Rattle.judge.proofs.playing.played.Tie as tie
 
 abbrev Inv-loop : tie.InvT-loop
-Inv-loop s size store₀ tape next₀ at₀ store next at = Winds s tape (judge-calls s store₀ next₀ (frames-in s tape)) store₀ store next at
+Inv-loop s size store₀ tape next₀ at₀ store next at = Winds s tape (left-by (judge-calls s store₀ next₀ (frames-in s tape))) store₀ store next at
 
 abbrev μ-loop : tie.MeasureT-loop
 μ-loop s size store₀ tape next₀ at₀ store next at = length tape - at
@@ -26,8 +26,11 @@ module _ (c : tie.In-loop Inv-loop μ-loop) where
   abbrev start : tie.Start Inv-loop μ-loop
   start = c .before .before .before .before
 
+  inside : c .before .loop .at < length (start .args .tape .now)
+  inside = omega (arith, c .loop-test .taken)
+
   there : c .before .loop .at + start .args .size ≤ length (start .args .tape .now)
-  there = frame-there (c .before .loop .inv) (c .loop-test .taken) (start .args .size) (start .pre .1)
+  there = frame-there (c .before .loop .inv) inside (start .args .size) (start .pre .1)
 
 add-to : tie.Need-add-to Inv-loop μ-loop
 add-to c = omega (arith, there c, start c .good)
@@ -38,18 +41,18 @@ part-judged-end c = there (c .before)
 judged-requires : tie.Need-judged-requires Inv-loop μ-loop
 judged-requires c κs =
     let at-loop = c .before .before in
-    frame-taken (at-loop .before .loop .inv) (at-loop .loop-test .taken)
+    frame-taken (at-loop .before .loop .inv) (inside at-loop)
 
 loop-less : tie.Need-loop-less Inv-loop μ-loop
 loop-less c =
     let at-loop = c .before .before .before .before .before in
-    omega (arith, there at-loop, at-loop .loop-test .taken, start at-loop .pre .1, some-octets (start at-loop .args .s))
+    omega (arith, there at-loop, inside at-loop, start at-loop .pre .1, some-octets (start at-loop .args .s))
 
 loop-again : tie.Need-loop-again Inv-loop μ-loop
 loop-again c =
     let at-judged = c .before .before in
     let at-loop = at-judged .before .before .before in
-    winds-to (at-loop .before .loop .inv) (at-loop .loop-test .taken) (start at-loop .args .size) (start at-loop .pre .1) (at-judged .judged .ensures)
+    winds-to (at-loop .before .loop .inv) (inside at-loop) (start at-loop .args .size) (start at-loop .pre .1) (at-judged .judged .ensures)
 
 returns : tie.Need-returns Inv-loop μ-loop
 returns c = winds-last (c .before .loop .inv) (omega (arith, c .loop-test .left))
