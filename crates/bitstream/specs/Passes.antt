@@ -8,7 +8,7 @@ use Rattle.bitstream.specs.Bitstream.{pointer_for, valid_bits, frame_with}
 
 -- W = 1, filled with 55
 abbrev one_octet : Edition → BitSettings
-one_octet e = record { link = record { spacecraft = 66; channel = 3; trailed = false; controlled = false; edition = e }; width = 1; fill = 85 }
+one_octet e = record { link = record { spacecraft = 66; channel = 3; trailed = false; edition = e }; width = 1; fill = 85 }
 
 pub record Pass13 (e : Edition) : Type 0 where
   pub seven : pointer_for (one_octet e) 7 ≡ 6

@@ -5,6 +5,7 @@ ghost use Rattle.frames.specs.Link.{zone_at};
 ghost use Rattle.frames.specs.BitFrame.{most_width};
 ghost use Rattle.bitstream.specs.Bitstream.{octets_for, pointer_for, valid_bits, mixed, zone_with, begun, writer_reachable, write_rows, wrote, written, reader_reachable, untold, no_reading, reading, leading_octets, Fits};
 
+use frames::ZONE_AT;
 use frames::bits::{ALL_VALID, BitSettings, FILL_ONLY};
 use octets::refusals;
 use words::Place;
@@ -89,9 +90,8 @@ fn lay_bits(s: BitSettings, bits: &[u8], n: usize, frame: &mut [u8])
     ensures { frame.new ≡ over frame.old (zone_at s.link) (zone_with s n bits.now) }
 {
     let whole = n / 8;
-    let from = frames::zone_at(s.link);
-    let at = from + whole;
-    octets::lay(frame, from, bits, 0, whole);
+    let at = ZONE_AT + whole;
+    octets::lay(frame, ZONE_AT, bits, 0, whole);
     octets::fill(frame, at, s.width - whole, s.fill);
     if n % 8 != 0 {
         frame[at] = mixed((n % 8) as u32, bits[whole], s.fill);
@@ -130,7 +130,7 @@ pub fn write(s: BitSettings, w: Writer, bits: &[u8], n: usize, frame: &mut [u8])
     }
     frames::bits::write_head(s, w.count, pointer_for(s, n), frame);
     lay_bits(s, bits, n, frame);
-    trailer::end_frame(s.link.trailed, frame, frames::zone_at(s.link) + s.width);
+    trailer::end_frame(s.link.trailed, frame, ZONE_AT + s.width);
     Written {
         refusal: 0,
         writer: Writer {
@@ -224,9 +224,8 @@ pub fn leading_octets(s: BitSettings, n: usize, frame: &[u8]) -> &[u8]
 {
     let needed = octets_for(n);
     if frames::bits::has_length(s, frame.len()) & (needed <= s.width) {
-        let from = frames::zone_at(s.link);
-        let end = from + needed;
-        return &frame[from..end];
+        let end = ZONE_AT + needed;
+        return &frame[ZONE_AT..end];
     }
     &frame[0..0]
 }

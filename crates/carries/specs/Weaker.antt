@@ -11,11 +11,11 @@ use Rattle.carries.specs.Carries.{starts, first_start, Between, LaidFrom, Bears,
 
 -- Z = 2, M = 7
 abbrev pub small : Settings
-small = record { link = record { spacecraft = 66; channel = 3; trailed = false; controlled = false; edition = Former }; zone = 2; limit = 7; fill = 0x55 }
+small = record { link = record { spacecraft = 66; channel = 3; trailed = false; edition = Former }; zone = 2; limit = 7; fill = 0x55 }
 
 -- the same with trailers
 abbrev pub small_trailed : Settings
-small_trailed = record { link = record { spacecraft = 66; channel = 3; trailed = true; controlled = false; edition = Former }; zone = 2; limit = 7; fill = 0x55 }
+small_trailed = record { link = record { spacecraft = 66; channel = 3; trailed = true; edition = Former }; zone = 2; limit = 7; fill = 0x55 }
 
 -- a frame of the channel: its count, the two octets of its pointer, and the two of its zone
 abbrev pub framed : ℕ → ℕ → ℕ → ℕ → ℕ → List ℕ

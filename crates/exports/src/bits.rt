@@ -10,6 +10,7 @@ use crate::channel::{link_of, zone_for};
 use crate::lent::{ROOM, leave};
 use arrays::{MOST_COUNT, count_of, entry, flag, keep, octet_of};
 use bitstream::{Reader, Reading, Writer};
+use frames::ZONE_AT;
 use frames::bits::BitSettings;
 
 // The entries of the settings, of each record, and of the answer.
@@ -115,19 +116,15 @@ fn reader_numbers(x: Reader) -> [u64; 3]
 }
 
 // Where the octets with the bits lie; 0 on a refusal.
-fn bits_at(l: Link, refusal: u8) -> u64
-    ensures { result ≡ pick (eqb refusal 0) (zone_at l) 0 }
+fn bits_at(refusal: u8) -> u64
+    ensures { result ≡ pick (eqb refusal 0) 8 0 }
 {
-    if refusal == 0 {
-        frames::zone_at(l) as u64
-    } else {
-        0
-    }
+    if refusal == 0 { ZONE_AT as u64 } else { 0 }
 }
 
 // The refusal, and the numbers of the answer behind it.
-fn read_said(s: BitSettings, reading: Reading, size: usize) -> [u64; 7]
-    ensures { (frame : List ℕ) → size ≡ length (leading_octets s reading.bits frame) → result ≡ reading.refusal ∷ read_numbers s frame reading }
+fn read_said(reading: Reading, size: usize) -> [u64; 7]
+    ensures { (s : BitSettings) (frame : List ℕ) → size ≡ length (leading_octets s reading.bits frame) → result ≡ reading.refusal ∷ read_numbers s frame reading }
 {
     [
         reading.refusal as u64,
@@ -135,7 +132,7 @@ fn read_said(s: BitSettings, reading: Reading, size: usize) -> [u64; 7]
         reading.replay as u64,
         flag(reading.lost),
         reading.bits as u64,
-        bits_at(s.link, reading.refusal),
+        bits_at(reading.refusal),
         size as u64,
     ]
 }
@@ -163,6 +160,6 @@ pub extern "C" fn itz_bits_read(
     let reader = reading.reader;
     let size = bitstream::leading_octets(settings, reading.bits, frame).len();
     let state = reader_numbers(reader);
-    let said = read_said(settings, reading, size);
+    let said = read_said(reading, size);
     leave(record, &state, answer, &said)
 }

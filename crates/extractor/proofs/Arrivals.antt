@@ -17,7 +17,7 @@ use Rattle.extractor.specs.Answers.{EnterSaid, entered_as}
 use Rattle.extractor.specs.declared.Extractor.{Extractor}
 use Rattle.extractor.specs.declared.Extractor.TheVariants.{Fresh, Astray, InStep, Walking, Leaving}
 use Rattle.extractor.proofs.Unrefused.{Arrives, held_fits}
-use Rattle.extractor.proofs.Steps.{Placed, left, zone_left}
+use Rattle.extractor.proofs.Steps.{left, zone_left}
 
 -- ---- the step that a record is in
 
@@ -80,10 +80,10 @@ module _ (s : Settings) (x : Extractor) (store f : List ℕ) {reason : ℕ} (rea
   unfolding damage_of
   other_reason h = rw (← reasoned, ne_eqb reason 3 h) refl
 
-  pub damage_reason : reason ≡ 3 → {d from to : ℕ} → Placed s 0 from to → d ≡ damage_in (look s.limit (take (held_in x) store ++ left from to f))
+  pub damage_reason : reason ≡ 3 → {d : ℕ} → d ≡ damage_in (look s.limit (take (held_in x) store ++ left s 0 f))
       → d ≡ damage_of s (stands_for store x) f
   unfolding damage_of stands_for
-  damage_reason h placed e = rw (← reasoned, eq-eqb reason 3 h, held_octets store x, zone_left s f placed) e
+  damage_reason h e = rw (← reasoned, eq-eqb reason 3 h, held_octets store x, zone_left s 0 f) e
 
 -- ---- what is said
 

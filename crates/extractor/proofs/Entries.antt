@@ -128,4 +128,4 @@ pub arrival : (s : Settings) (f store : List ℕ) (x : Extractor) → in_range s
     → Arrival s f store (walked s (step_of s (stands_for store x) f) f) (enter s (stands_for store x) f)
 unfolding enter
 arrival s f store x ok e reach between =
-    set_out_arrival s f store ok (accepted s f e).right_length (accepted s f e).pointed (compared s f store x ok reach between)
+    set_out_arrival s f store ok (accepted s f e).right-length (accepted s f e).pointed (compared s f store x ok reach between)

@@ -17,7 +17,7 @@ use Rattle.frames.specs.Frame.{idle_zone, no_start, zone_of, pointer}
 use Rattle.frames.specs.declared.Settings.{Settings}
 use Rattle.extractor.specs.Extract.{in_step, agreed_look, agreed, reason_by, reason_in}
 use Rattle.extractor.specs.Walks.{Walks}
-use Rattle.extractor.proofs.Steps.{Placed, left, zone_left}
+use Rattle.extractor.proofs.Steps.{left, zone_left}
 
 -- octets that are held agree by what they say with the zone's
 agreed_some : (s : Settings) (held z : List ℕ) → 1 ≤ length held → agreed s held z ≡ agreed_look s held (look s.limit (held ++ z))
@@ -34,7 +34,7 @@ module _ {s : Settings} {h : ℕ} {store f : List ℕ} (w : Walks s h 0 store f)
   unfolding reason_in reason_by agreed
   none_held n e none = rw (none, ← points, or_none (eqb p idle_zone)) e
 
-  module _ (some : h ≡ 0 → ⊥) {from to : ℕ} (placed : Placed s 0 from to) (r : Seen) (told : seen r ≡ look s.limit (take h store ++ left from to f)) where
+  module _ (some : h ≡ 0 → ⊥) (r : Seen) (told : seen r ≡ look s.limit (take h store ++ left s 0 f)) where
     by_length : reason_by p (agreed_look s (take h store) (seen r)) ≡ reason_in s (in_step (take h store)) f
     unfolding reason_in
     by_length =
@@ -42,7 +42,7 @@ module _ {s : Settings} {h : ℕ} {store f : List ℕ} (w : Walks s h 0 store f)
         rw (
           points,
           told,
-          ← zone_left s f placed,
+          ← zone_left s 0 f,
           agreed_some s (take h store) (zone_of s f) (omega arith),
         ) refl
 

@@ -11,19 +11,18 @@ use lib.ListN.{length, take, drop, replicate, length-append, length-take, length
 use lib.Seq.{length-take-le, take-add, drop_at}
 use lib.Dec.{leb, ltb, eqb, eqb-suc-zero}
 use borrow.Author.Tests.{ltb-true, ltb-false, leb-true, leb-false, eqb-true, lt-ltb, le-ltb, ne_eqb, eq-eqb}
-use Rattle.octets.specs.Basics.{AllOctets, first}
+use Rattle.octets.specs.Basics.{AllOctets, octets, first}
 use Rattle.octets.proofs.Choices.{apart, and_true}
-use Rattle.octets.proofs.Fronts.{all_take, all_drop, all_append, all_zeros}
+use Rattle.octets.proofs.Fronts.{all_take, all_drop, all_append, all_zeros, all_octets}
 use Rattle.octets.proofs.Tests.{test, and_both}
 use Rattle.packets.specs.Packet.{Look, more, damaged, whole, look, Undamaged}
 use Rattle.packets.proofs.Begun.{damaged-append}
 use Rattle.packets.proofs.Grown.{look-append}
 use Rattle.trailer.proofs.Setting.{sent_octets}
-use Rattle.frames.specs.Link.{zone_at, count_width}
+use Rattle.frames.specs.Link.{head_word, headers, count_width}
 use Rattle.frames.specs.Frame.{idle_zone, no_start, in_range, frame_length, zone_of, pointer_word, head}
 use Rattle.frames.specs.declared.Settings.{Settings}
 use Rattle.frames.proofs.Accepted.{length_zone, accepted}
-use Rattle.frames.proofs.ReadBack.{all_headers}
 use Rattle.frames.proofs.Framed.{framed, Used, Framed, framed_is, pointer_inside, pointer_beyond}
 use Rattle.frames.proofs.Settled.{settled}
 use Rattle.frames.proofs.Wheel.{count_before, before_on_wheel, follows_before}
@@ -68,7 +67,7 @@ unfolding zone_of
 arrival_continues s f store small right nothing = tt
 arrival_continues s f store small right (onward {h = zero} p undamaged) = tt
 arrival_continues s f store small right (onward {h = suc h} p undamaged) =
-    (zone_of s f, all_take s.zone (drop (zone_at s.link) f) (all_drop (zone_at s.link) f small), length_zone s f right, undamaged (omega arith))
+    (zone_of s f, all_take s.zone (drop 8 f) (all_drop 8 f small), length_zone s f right, undamaged (omega arith))
 
 turn_continues : (s : Settings) (f store : List ℕ) {x : Extractor} {w : Stepped} → Turn s f store x w → Continues s w.store w.next
 turn_continues s f store leave = tt
@@ -85,7 +84,7 @@ enters_sound s x store f small k =
     rw (enter_next s x store f e) (record {
       reach = (enter_reachable s f store x a.ranged a.accepts a.reached a.between).0;
       goes_on =
-          arrival_continues s f store small (accepted s f a.accepts).right_length
+          arrival_continues s f store small (accepted s f a.accepts).right-length
           (arrival s f store x a.ranged a.accepts a.reached a.between);
     }))
     (λ t. rw (enter_stays s x store f t) k)
@@ -161,10 +160,12 @@ keeps_on s f store {h = h} {at = at} (give {l = l} packed w fits seen rest low h
     absurd (omega (arith, ltb-true (length (ahead s f store h at)) l (rw w at e)))
 
 pub all_framed : (s : Settings) (c p : ℕ) (z : List ℕ) → AllOctets z → AllOctets (framed s c p z)
-unfolding framed head
+unfolding framed head headers
 all_framed s c p z small =
     sent_octets s.link.trailed (head s c p ++ z)
-    (all_append (head s c p) z (all_headers s.link c 0 (pointer_word p)) small)
+    (let front : List ℕ = octets 6 (head_word s.link c 0) in
+    let back : List ℕ = octets 2 (pointer_word p) in
+    all_append (front ++ back) z (all_append front back (all_octets 6 (head_word s.link c 0)) (all_octets 2 (pointer_word p))) small)
 
 -- a frame that follows the last one, with the pointer that agrees with what is held
 step_held : (s : Settings) (held f z : List ℕ) (c p : ℕ) → c < 2 ^ count_width s.link → Framed s c p z f → agreed s held z ≡ some (p ∷ [])

@@ -82,7 +82,7 @@ module _ (s : Settings) (f : List ℕ) where
   unfolding frame_rows header_rows
   frame_row =
       other_row 3 _ _ refl
-      (other_row 13 _ _ refl (other_row 14 _ _ refl (other_row 4 _ _ refl (other_row 5 _ _ refl (other_row 6 _ _ refl (other_row 7 _ _ refl no_row))))))
+      (other_row 13 _ _ refl (other_row 4 _ _ refl (other_row 5 _ _ refl (other_row 6 _ _ refl (other_row 7 _ _ refl no_row)))))
 
   -- a header's refusal tells whether the settings are in range
   pub out_of_range : first (heading_rows s f) ≡ 1 → in_range s ≡ false

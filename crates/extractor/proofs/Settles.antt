@@ -258,4 +258,4 @@ pub steps_are_events : (s : Settings) (f store : List ℕ) (x : Extractor) → i
     (steps s f (suc s.zone) (enter s (stands_for store x) f) store)
 unfolding take_in
 steps_are_events s f store x ok e room reach between =
-    arrival_settles s f store ok (accepted s f e).right_length room (arrival s f store x ok e reach between)
+    arrival_settles s f store ok (accepted s f e).right-length room (arrival s f store x ok e reach between)

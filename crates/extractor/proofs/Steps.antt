@@ -1,6 +1,6 @@
 -- A step of a walk, case by case, with the zone's octets as they lie in the frame.
 -- Assumes nothing.
-use mathlib.Core.Path.{◌≡◌, refl, sym, ap, ap₂, subst, subst⁻¹, ◌∙◌}
+use mathlib.Core.Path.{◌≡◌, refl, sym, ap, ap₂, subst, ◌∙◌}
 use mathlib.Core.List.{List, [], ◌∷◌, ◌++◌}
 use mathlib.Core.Logic.{◌⊎◌, inl, inr}
 use mathlib.Core.Bool.{Bool}
@@ -21,7 +21,6 @@ use Rattle.packets.specs.declared.Seen.{Seen}
 use Rattle.packets.specs.declared.Seen.TheVariants.{More, Whole}
 use Rattle.packets.proofs.Grown.{look_bounds}
 use Rattle.packets.proofs.Begun.{more_short, idle_begun}
-use Rattle.frames.specs.Link.{zone_at}
 use Rattle.frames.specs.Frame.{zone_of, frame_length}
 use Rattle.frames.specs.declared.Settings.{Settings}
 use Rattle.frames.proofs.Settled.{settled}
@@ -70,20 +69,14 @@ hand_whole n (Whole k) {l} e =
     its_own e h = let same : k ≡ l = cc in rw (← same) h
 
 -- the zone's octets from `at`, where they lie in the frame
-pub record Placed (s : Settings) (at from to : ℕ) : Type 0 where
-  pub begins : from ≡ zone_at s.link + at
-  pub ends : to ≡ zone_at s.link + s.zone
+abbrev pub left : Settings → ℕ → List ℕ → List ℕ
+left s at f = take (8 + s.zone - (8 + at)) (drop (8 + at) f)
 
-abbrev pub left : ℕ → ℕ → List ℕ → List ℕ
-left from to f = take (to - from) (drop from f)
-
-pub zone_left : {at from to : ℕ} (s : Settings) (f : List ℕ) → Placed s at from to → drop at (zone_of s f) ≡ left from to f
+pub zone_left : (s : Settings) (at : ℕ) (f : List ℕ) → drop at (zone_of s f) ≡ left s at f
 unfolding zone_of
-zone_left {at} {from} {to} s f placed =
-    let z : ℕ = zone_at s.link in
-    let many : s.zone - at ≡ to - from = omega (arith, placed) in
-    drop-take at s.zone (drop z f) ∙ ap (take (s.zone - at)) (drop-drop at z f)
-    ∙ ap₂ (λ (m n : ℕ). take m (drop n f)) many (sym placed.begins)
+zone_left s at f =
+    let e : s.zone - at ≡ 8 + s.zone - (8 + at) = omega arith in
+    drop-take at s.zone (drop 8 f) ∙ ap (take (s.zone - at)) (drop-drop at 8 f) ∙ ap (λ (n : ℕ). take n (drop (8 + at) f)) e
 
 -- the numbers of a walk
 pub record Plain (s : Settings) (h at : ℕ) (store f : List ℕ) : Type 0 where
@@ -92,7 +85,7 @@ pub record Plain (s : Settings) (h at : ℕ) (store f : List ℕ) : Type 0 where
   pub small : s.zone ≤ 2046
   pub inside : at ≤ s.zone
   pub holds : h ≤ length store
-  pub long : zone_at s.link + s.zone ≤ length f
+  pub long : 8 + s.zone ≤ length f
 
 pub plain : {s : Settings} {h at : ℕ} {store f : List ℕ} → Walks s h at store f → Plain s h at store f
 unfolding frame_length
@@ -100,34 +93,34 @@ plain {s} w =
     let r = settled s w.ranged in
     record { least = r.limit_least; room = w.room; small = r.zone_most; inside = w.inside; holds = w.holds; long = omega (arith, w.framed) }
 
-module _ {s : Settings} {h at : ℕ} {store f : List ℕ} (w : Walks s h at store f) {from to : ℕ} (placed : Placed s at from to) (last : ℕ) where
-  length-left : length (left from to f) ≡ to - from
-  length-left = length_run f from (to - from) (omega (arith, plain w, placed))
+module _ {s : Settings} {h at : ℕ} {store f : List ℕ} (w : Walks s h at store f) (last : ℕ) where
+  length-left : length (left s at f) ≡ 8 + s.zone - (8 + at)
+  length-left = length_run f (8 + at) (8 + s.zone - (8 + at)) (omega (arith, plain w))
 
   -- the octets held, and those after them
   abbrev both : List ℕ
-  both = take h store ++ left from to f
+  both = take h store ++ left s at f
 
-  length_both : length both ≡ h + (to - from)
-  length_both = length-append (take h store) (left from to f) ∙ ap₂ ◌+◌ (length-take-le h store w.holds) length-left
+  length_both : length both ≡ h + (8 + s.zone - (8 + at))
+  length_both = length-append (take h store) (left s at f) ∙ ap₂ ◌+◌ (length-take-le h store w.holds) length-left
 
   some_room : 1 ≤ s.limit
   some_room = omega (arith, plain w)
 
   module _ (r : Seen) (told : seen r ≡ look s.limit both) where
-    at_look : step s f store (Walking last h at) ≡ step_look s store last h at (left from to f) (seen r)
+    at_look : step s f store (Walking last h at) ≡ step_look s store last h at (left s at f) (seen r)
     unfolding step
-    at_look = rw (told, zone_left from to f) refl
+    at_look = rw (told, zone_left s at f) refl
 
-    step_more : r ≡ More → kept_for_later store last h (left from to f) ≡ step s f store (Walking last h at)
+    step_more : r ≡ More → kept_for_later store last h (left s at f) ≡ step s f store (Walking last h at)
     unfolding seen step_look
-    step_more q = sym (at_look ∙ ap (λ (x : Seen). step_look s store last h at (left from to f) (seen x)) q)
+    step_more q = sym (at_look ∙ ap (λ (x : Seen). step_look s store last h at (left s at f) (seen x)) q)
 
     step_damaged : {d : ℕ} → r ≡ Seen.Damaged d → steps_to (Damaged d) (Leaving last) store ≡ step s f store (Walking last h at)
     unfolding seen step_look
-    step_damaged q = sym (at_look ∙ ap (λ (x : Seen). step_look s store last h at (left from to f) (seen x)) q)
+    step_damaged q = sym (at_look ∙ ap (λ (x : Seen). step_look s store last h at (left s at f) (seen x)) q)
 
-    more_room : r ≡ More → h + (to - from) ≤ length store
+    more_room : r ≡ More → h + (8 + s.zone - (8 + at)) ≤ length store
     unfolding seen
     more_room q = omega (arith, more_short s.limit both some_room (sym told ∙ ap seen q), length_both, plain w)
 
@@ -139,78 +132,78 @@ module _ {s : Settings} {h at : ℕ} {store f : List ℕ} (w : Walks s h at stor
       whole_limit : l ≤ s.limit
       whole_limit = (look_bounds s.limit both some_room (sym told ∙ its_length)).1
 
-      step_later : h + (to - from) < l → kept_for_later store last h (left from to f) ≡ step s f store (Walking last h at)
+      step_later : h + (8 + s.zone - (8 + at)) < l → kept_for_later store last h (left s at f) ≡ step s f store (Walking last h at)
       unfolding step_look
       step_later k =
-          sym (at_look ∙ ap (step_look s store last h at (left from to f)) its_length
-          ∙ rw (lt-leb l (h + length (left from to f)) (omega (arith, length-left))) refl)
+          sym (at_look ∙ ap (step_look s store last h at (left s at f)) its_length
+          ∙ rw (lt-leb l (h + length (left s at f)) (omega (arith, length-left))) refl)
 
-      module _ (k : l ≤ h + (to - from)) where
-        handed : handed_over s store last h at (left from to f) l ≡ step s f store (Walking last h at)
+      module _ (k : l ≤ h + (8 + s.zone - (8 + at))) where
+        handed : handed_over s store last h at (left s at f) l ≡ step s f store (Walking last h at)
         unfolding step_look
         handed =
-            sym (at_look ∙ ap (step_look s store last h at (left from to f)) its_length
-            ∙ rw (le-leb l (h + length (left from to f)) (omega (arith, length-left))) refl)
+            sym (at_look ∙ ap (step_look s store last h at (left s at f)) its_length
+            ∙ rw (le-leb l (h + length (left s at f)) (omega (arith, length-left))) refl)
 
         -- octets that begin with the packet are idle as it is
         its_mark : (ys : List ℕ) → take l ys ≡ take l both → is_idle ys ≡ is_idle (take l both)
         its_mark ys same = idle_begun s.limit both ys some_room (sym told ∙ its_length) (omega (arith, length_both)) same
 
         -- a packet that lies in the frame
-        pub step_frame : (idle : Bool) → h ≡ 0 → idle ≡ is_idle (left from to f)
-            → steps_to (InFrame from l idle) (Walking last 0 (at + l)) store ≡ step s f store (Walking last h at)
+        pub step_frame : (idle : Bool) → h ≡ 0 → idle ≡ is_idle (left s at f)
+            → steps_to (InFrame (8 + at) l idle) (Walking last 0 (at + l)) store ≡ step s f store (Walking last h at)
         unfolding handed_over
         step_frame idle none i =
-            let alone : left from to f ≡ both = rw none refl in
-            let mark : idle ≡ is_idle (take l both) = i ∙ its_mark (left from to f) (ap (take l) alone) in
-            subst⁻¹ (λ (n : ℕ). steps_to (InFrame n l idle) (Walking last 0 (at + l)) store ≡ step s f store (Walking last h at)) placed.begins
-            (rw mark (rw (eq-eqb h 0 none) at handed))
+            let alone : left s at f ≡ both = rw none refl in
+            let mark : idle ≡ is_idle (take l both) = i ∙ its_mark (left s at f) (ap (take l) alone) in
+            rw mark (rw (eq-eqb h 0 none) at handed)
 
         -- a packet whose last octets are laid after those held
-        pub step_laid : (n more : ℕ) (st : List ℕ) (idle : Bool) → (h ≡ 0 → ⊥) → more ≡ l - h → n ≡ at + (l - h) → st ≡ laid_part store h from (from + more) f
-            → idle ≡ is_idle st → steps_to (InStore l idle) (Walking last 0 n) st ≡ step s f store (Walking last h at)
+        pub step_laid : (n : ℕ) (st : List ℕ) (idle : Bool) → (h ≡ 0 → ⊥) → n ≡ at + (l - h) → st ≡ laid_part store h (8 + at) (8 + n) f → idle ≡ is_idle st
+            → steps_to (InStore l idle) (Walking last 0 n) st ≡ step s f store (Walking last h at)
         unfolding handed_over
-        step_laid n more st idle some e m v i =
-            let cut : take (l - h) (left from to f) ≡ take (l - h) (drop from f) = take-take (l - h) (to - from) (drop from f) (omega arith) in
-            let size : from + more - from ≡ l - h = omega arith in
-            let written : st ≡ over store h (take (l - h) (left from to f)) =
-            rw (v, cut, part_within store h from (from + more) f (omega arith) (omega (arith, plain w, placed)) (omega (arith, whole_limit, plain w)), size) refl in
+        step_laid n st idle some m v i =
+            let rest : ℕ = 8 + s.zone - (8 + at) in
+            let cut : take (l - h) (left s at f) ≡ take (l - h) (drop (8 + at) f) = take-take (l - h) rest (drop (8 + at) f) (omega arith) in
+            let size : 8 + n - (8 + at) ≡ l - h = omega arith in
+            let written : st ≡ over store h (take (l - h) (left s at f)) =
+            rw (v, cut, part_within store h (8 + at) (8 + n) f (omega arith) (omega (arith, plain w)) (omega (arith, whole_limit, plain w)), size) refl in
             let mark : idle ≡ is_idle (take l both) = i ∙ its_mark st (ap (take l) written ∙ packet_laid) in
             rw (mark, m, written) (rw (ne_eqb h 0 some) at handed)
           where
             held : length (take h store) ≡ h
             held = length-take-le h store w.holds
 
-            added : length (take (l - h) (left from to f)) ≡ l - h
-            added = length-take-le (l - h) (left from to f) (omega (arith, length-left))
+            added : length (take (l - h) (left s at f)) ≡ l - h
+            added = length-take-le (l - h) (left s at f) (omega (arith, length-left))
 
             -- the store then begins with the packet
-            packet_laid : take l (over store h (take (l - h) (left from to f))) ≡ take l both
+            packet_laid : take l (over store h (take (l - h) (left s at f))) ≡ take l both
             packet_laid =
-                let os : List ℕ = over store h (take (l - h) (left from to f)) in
+                let os : List ℕ = over store h (take (l - h) (left s at f)) in
                 let front : take (h + (l - h)) os ≡ take (h + (l - h)) both =
-                subst (λ (n : ℕ). take (h + n) os ≡ take h store ++ take (l - h) (left from to f)) added (over-take store h (take (l - h) (left from to f)) w.holds)
-                ∙ sym (subst (λ (n : ℕ). take (n + (l - h)) both ≡ take h store ++ take (l - h) (left from to f)) held (take-append-add (take h store) (left from to f) (l - h))) in
+                subst (λ (n : ℕ). take (h + n) os ≡ take h store ++ take (l - h) (left s at f)) added (over-take store h (take (l - h) (left s at f)) w.holds)
+                ∙ sym (subst (λ (n : ℕ). take (n + (l - h)) both ≡ take h store ++ take (l - h) (left s at f)) held (take-append-add (take h store) (left s at f) (l - h))) in
                 sym (take-take l (h + (l - h)) os (omega arith)) ∙ ap (take l) front ∙ take-take l (h + (l - h)) both (omega arith)
 
     -- by the octets that are at hand: those held, and the zone's from `at`
-    module _ {n : ℕ} (many : n ≡ h + (to - from)) {there : Seen} (cut : there ≡ at_hand n r) where
+    module _ {n : ℕ} (many : n ≡ h + (8 + s.zone - (8 + at))) {there : Seen} (cut : there ≡ at_hand n r) where
       pub step_torn : {d : ℕ} → there ≡ Seen.Damaged d → steps_to (Damaged d) (Leaving last) store ≡ step s f store (Walking last h at)
       step_torn q = step_damaged (hand_damaged n r (sym cut ∙ q))
 
-      pub step_kept : there ≡ More → kept_for_later store last h (left from to f) ≡ step s f store (Walking last h at)
+      pub step_kept : there ≡ More → kept_for_later store last h (left s at f) ≡ step s f store (Walking last h at)
       step_kept q = by (hand_more n r (sym cut ∙ q))
         where
-          by : (r ≡ More) ⊎ ((l : ℕ) × (r ≡ Whole l) × (n < l)) → kept_for_later store last h (left from to f) ≡ step s f store (Walking last h at)
+          by : (r ≡ More) ⊎ ((l : ℕ) × (r ≡ Whole l) × (n < l)) → kept_for_later store last h (left s at f) ≡ step s f store (Walking last h at)
           by (inl e) = step_more e
           by (inr (l, e, k)) = step_later e (omega (arith, many, k))
 
-      pub kept_room : there ≡ More → h + (to - from) ≤ length store
+      pub kept_room : there ≡ More → h + (8 + s.zone - (8 + at)) ≤ length store
       kept_room q = by (hand_more n r (sym cut ∙ q))
         where
-          by : (r ≡ More) ⊎ ((l : ℕ) × (r ≡ Whole l) × (n < l)) → h + (to - from) ≤ length store
+          by : (r ≡ More) ⊎ ((l : ℕ) × (r ≡ Whole l) × (n < l)) → h + (8 + s.zone - (8 + at)) ≤ length store
           by (inl e) = more_room e
           by (inr (l, e, k)) = omega (arith, many, k, whole_limit e, plain w)
 
-      pub whole_there : {l : ℕ} → there ≡ Whole l → (r ≡ Whole l) × (l ≤ h + (to - from))
+      pub whole_there : {l : ℕ} → there ≡ Whole l → (r ≡ Whole l) × (l ≤ h + (8 + s.zone - (8 + at)))
       whole_there {l} q = let (e, k) = hand_whole n r (sym cut ∙ q) in (e, omega (arith, many, k))

@@ -60,7 +60,7 @@ arriving_walks {s} {x} {store} {f} a = record {
   room = a.room;
   inside = omega arith;
   holds = held_fits s store x a.reached a.between;
-  framed = (accepted s f a.accepts).right_length;
+  framed = (accepted s f a.accepts).right-length;
 }
 
 -- ---- a step

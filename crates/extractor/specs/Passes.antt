@@ -8,7 +8,7 @@ use Rattle.extractor.specs.Extract.{fresh, Event, packet, idle, torn, Told, refu
 
 -- Z = 10, M = 1,024
 abbrev pub sample : Edition → Settings
-sample e = record { link = record { spacecraft = 66; channel = 3; trailed = false; controlled = false; edition = e }; zone = 10; limit = 1024; fill = 0x55 }
+sample e = record { link = record { spacecraft = 66; channel = 3; trailed = false; edition = e }; zone = 10; limit = 1024; fill = 0x55 }
 
 -- the greatest count, and the signalling octet of a frame with this count
 abbrev pub greatest : Edition → ℕ
@@ -176,7 +176,7 @@ SpoiltPasses = (e : Edition) → given (sample e) (spoilt e (wrong_signals e)) �
 -- ---- the same channel with trailers
 
 abbrev pub trailed_sample : Edition → Settings
-trailed_sample e = record { link = record { spacecraft = 66; channel = 3; trailed = true; controlled = false; edition = e }; zone = 10; limit = 1024; fill = 0x55 }
+trailed_sample e = record { link = record { spacecraft = 66; channel = 3; trailed = true; edition = e }; zone = 10; limit = 1024; fill = 0x55 }
 
 -- the two sample frames with their trailers
 abbrev pub trailed_first : List ℕ

@@ -17,7 +17,7 @@ use Rattle.extractor.specs.declared.Spending.{Spending}
 
 -- the least zone and the least limit
 abbrev pub tight : Settings
-tight = record { link = record { spacecraft = 0; channel = 0; trailed = false; controlled = false; edition = Former }; zone = 1; limit = 7; fill = 0 }
+tight = record { link = record { spacecraft = 0; channel = 0; trailed = false; edition = Former }; zone = 1; limit = 7; fill = 0 }
 
 -- seven octets of a header of eight
 abbrev pub seven_held : List ℕ

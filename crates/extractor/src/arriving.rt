@@ -9,7 +9,7 @@ ghost use Rattle.extractor.specs.Walks.{Says, Walks, PointsTo, Heads};
 
 use crate::held::{held_in, last_in, length_across};
 use crate::{Entered, Entering, Entry, Extractor};
-use frames::{Heading, IDLE_ZONE, NO_START, Settings};
+use frames::{Heading, IDLE_ZONE, NO_START, Settings, ZONE_AT};
 use packets::{Seen, damage};
 
 // Why the octets held are dropped, or that they are not.
@@ -75,8 +75,15 @@ fn pointer_reason(
     if held == 0 {
         return compared((pointer == 0) | (pointer == IDLE_ZONE));
     }
-    let from = frames::zone_at(s.link);
-    match length_across(s.limit, stated, store, held, frame, from, from + s.zone) {
+    match length_across(
+        s.limit,
+        stated,
+        store,
+        held,
+        frame,
+        ZONE_AT,
+        ZONE_AT + s.zone,
+    ) {
         Seen::Damaged { .. } => HEADER_DAMAGED,
         Seen::More => compared(pointer == NO_START),
         Seen::Whole { total } => compared(pointer == next_start(s.zone, octets::rest(total, held))),
@@ -118,9 +125,8 @@ fn damage_of(s: Settings, x: Extractor, stated: Seen, reason: u8, store: &[u8], 
     if reason != HEADER_DAMAGED {
         return damage::NONE;
     }
-    let from = frames::zone_at(s.link);
-    let to = from + s.zone;
-    packets::damage_in(length_across(s.limit, stated, store, held_in(x), frame, from, to))
+    let to = ZONE_AT + s.zone;
+    packets::damage_in(length_across(s.limit, stated, store, held_in(x), frame, ZONE_AT, to))
 }
 
 // Where the walk sets out: in step with so many octets held, or out of step.

@@ -8,7 +8,7 @@ ghost use Rattle.extractor.specs.Walks.{Says, Walks, at_rest};
 
 use crate::held::{at_hand, length_across};
 use crate::{Extractor, Found, Move};
-use frames::Settings;
+use frames::{Settings, ZONE_AT};
 use packets::Seen;
 
 // The frame's octets from `from` up to `to` join those held.
@@ -49,9 +49,8 @@ fn walk(s: Settings, last: u32, at: usize, store: &mut [u8], frame: &[u8]) -> Mo
     requires { Walks s 0 at store.old frame.now }
     ensures { stepped result store.new ≡ step s frame.now store.old (Extractor.Walking last 0 at) }
 {
-    let zone = frames::zone_at(s.link);
-    let from = zone + at;
-    let to = zone + s.zone;
+    let from = ZONE_AT + at;
+    let to = ZONE_AT + s.zone;
     let left = &frame[from..to];
     match at_hand(to - from, packets::read_length(s.limit, left)) {
         Seen::Damaged { damage } => abandoned(last, damage),
@@ -81,15 +80,14 @@ fn complete(
     requires says { Says s store.old held stated }
     ensures { stepped result store.new ≡ step s frame.now store.old (Extractor.Walking last held 0) }
 {
-    let from = frames::zone_at(s.link);
-    let to = from + s.zone;
-    let length = length_across(s.limit, stated, store, held, frame, from, to);
+    let to = ZONE_AT + s.zone;
+    let length = length_across(s.limit, stated, store, held, frame, ZONE_AT, to);
     match at_hand(held + s.zone, length) {
         Seen::Damaged { damage } => abandoned(last, damage),
-        Seen::More => keep(last, held, store, frame, from, to),
+        Seen::More => keep(last, held, store, frame, ZONE_AT, to),
         Seen::Whole { total } => {
             let rest = octets::rest(total, held);
-            octets::lay(store, held, frame, from, from + rest);
+            octets::lay(store, held, frame, ZONE_AT, ZONE_AT + rest);
             let found = Found::InStore {
                 size: total,
                 idle: packets::is_idle(store),

@@ -38,7 +38,7 @@ pub data Pointed (s : Settings) (f : List ℕ) : Type 0 where
   starts_none : pointer s f ≡ no_start → Pointed s f
 
 pub record Accepted (s : Settings) (f : List ℕ) : Type 0 where
-  pub right_length : length f ≡ frame_length s
+  pub right-length : length f ≡ frame_length s
   pub pointed : Pointed s f
 
 which_pointer : (s : Settings) (f : List ℕ) → unused s (pointer s f) ≡ false → Pointed s f
@@ -55,7 +55,7 @@ pub accepted : (s : Settings) (f : List ℕ) → first (frame_rows s f) ≡ 0 �
 unfolding frame_rows frame_length unused
 accepted s f e =
     let sound = sound_frame (packet_shape s) f e in
-    record { right_length = sound.length-right; pointed = which_pointer s f sound.header.pointer_used }
+    record { right-length = sound.length-right; pointed = which_pointer s f sound.header.pointer_used }
 
 -- its header says what stands in it, where the settings are in range
 pub accepted_heading : (s : Settings) (f : List ℕ) → in_range s ≡ true → first (frame_rows s f) ≡ 0

@@ -1,26 +1,17 @@
 -- What a frame is refused for, by its octets.
 -- Assumes nothing.
-use Rattle.std.proofs.Common.{◌≡◌, ℕ, ◌+◌, ◌-◌, ◌*◌, ◌/◌, ◌%◌, ◌^◌, ◌<◌, ◌≤◌, Bool, true, false, not, eqb, ltb, ◌⊎◌, List, [], ◌∷◌, ◌++◌, length, take, drop, sym, refl, ap, ◌∙◌, subst, ap₂, inl, inr, arith, length-drop, ltb-true, eq-eqb}
+use Rattle.std.proofs.Common.{◌≡◌, ℕ, ◌+◌, ◌-◌, ◌*◌, ◌/◌, ◌%◌, ◌^◌, ◌<◌, Bool, true, false, not, eqb, ltb, List, [], ◌∷◌, length, refl, ap, ◌∙◌, arith, ltb-true, eq-eqb}
 use borrow.Author.Tests.{not-false}
-use Rattle.octets.specs.Basics.{pick, and, AllOctets, number, number_from, octets, Row, row, first}
-use Rattle.octets.proofs.Fronts.{all_drop, all_octets}
-use Rattle.octets.proofs.Numbers.{run_lt, number_octets, octets_number}
+use Rattle.octets.specs.Basics.{and, AllOctets, number, number_from, Row, row, first}
 use Rattle.octets.proofs.Choices.{none_holds, and_true, refusal_kept}
 use Rattle.words.specs.Fields.{field, read}
 use Rattle.trailer.specs.Trailer.{wrong}
-use Rattle.repair.specs.Code.{checks}
-use Rattle.repair.specs.Header.{header_checks, own_octets, own_written, own_header}
-use Rattle.repair.specs.Changes.{Legible}
-use Rattle.repair.specs.declared.Header.{Header}
-use Rattle.repair.proofs.Headers.{six_in_octets}
-use Rattle.repair.proofs.Changed.{own_least}
-use Rattle.repair.proofs.Setting.{behind_sent, as_sent, sent_so, refused}
 use Rattle.frames.specs.Edition.{seven_place, signals}
-use Rattle.frames.specs.Link.{version_place, spacecraft_place, channel_place, beyond_repair, primary, zone_head, header_rows, written_rows, count_width}
+use Rattle.frames.specs.Link.{version_place, spacecraft_place, channel_place, primary, zone_head, header_rows, written_rows, count_width}
 use Rattle.frames.specs.Shape.{shape_length, spare_above, pointer_at, shape_unused, shape_rows, heading_of}
 use Rattle.frames.specs.Frame.{in_range, packet_shape, frame_length, frame_rows, heading_rows, unused, head_rows}
 use Rattle.frames.specs.BitFrame.{bits_in_range, bits_shape, bit_frame_length, bit_frame_rows, bit_heading_rows, bit_heading, bit_unused, bit_head_rows}
-use Rattle.frames.specs.Editions.{right_octet, between, by_header, by_octets, CameOf, RefusedBy, BeyondRepair, OnWheel}
+use Rattle.frames.specs.Editions.{right_octet, by_octets, RefusedBy, OnWheel}
 use Rattle.frames.specs.declared.Edition.{Edition}
 use Rattle.frames.specs.declared.Edition.TheVariants.{Former, CycleUnused, CycleUsed}
 use Rattle.frames.specs.declared.Heading.{Heading}
@@ -82,105 +73,33 @@ module _ (x y : ℕ) (all : AllOctets (x ∷ y ∷ [])) where
   unfolding number number_from field
   bit_pointer_octets = omega arith
 
--- a header as it is written, by its octets
-pub own_by_octets : (l : Link) (a b c₁ c₂ c₃ o : ℕ) → AllOctets (a ∷ b ∷ c₁ ∷ c₂ ∷ c₃ ∷ o ∷ [])
-    → own_written l.controlled (number (a ∷ b ∷ c₁ ∷ c₂ ∷ c₃ ∷ o ∷ [])) ≡ (a ∷ b ∷ c₁ ∷ c₂ ∷ c₃ ∷ o ∷ []) ++ between l a b o
-unfolding own_written between header_checks
-own_by_octets l a b c₁ c₂ c₃ o all =
-    ap₂ ◌++◌ (octets_number (a ∷ b ∷ c₁ ∷ c₂ ∷ c₃ ∷ o ∷ []) all)
-    (ap (λ (six : ℕ). pick l.controlled (octets 2 (checks six)) [])
-    (six_in_octets a b c₁ c₂ c₃ o 0 0 all.0 all.1.0 all.1.1.0 all.1.1.1.0 all.1.1.1.1.0 all.1.1.1.1.1.0))
+-- a frame of a shape, by its octets
+module _ (h : Shape) (a b c₁ c₂ c₃ o x y : ℕ) (zone : List ℕ) (all : AllOctets (a ∷ b ∷ c₁ ∷ c₂ ∷ c₃ ∷ o ∷ x ∷ y ∷ [])) where
+  abbrev frame : List ℕ
+  frame = a ∷ b ∷ c₁ ∷ c₂ ∷ c₃ ∷ o ∷ x ∷ y ∷ zone
 
--- a frame of a shape, by the octets that it came of
-module _ (h : Shape) (a b c₁ c₂ c₃ o x y : ℕ) (zone came : List ℕ) (of : CameOf h.link (shape_length h) a b c₁ c₂ c₃ o x y zone came) where
-  abbrev on : Bool
-  on = h.link.controlled
-
-  abbrev six : List ℕ
-  six = a ∷ b ∷ c₁ ∷ c₂ ∷ c₃ ∷ o ∷ []
-
-  eight : 8 ≤ length came
-  eight = omega (arith, of.right_length, own_least on)
-
-  short : number six < 2 ^ 48
-  short = run_lt six 0 6 of.octets_sent (omega arith)
-
-  legible : Legible on (own_written on (number six) ++ (x ∷ y ∷ zone)) came
-  unfolding by_header
-  legible = subst (λ (g : List ℕ). Legible on (g ++ (x ∷ y ∷ zone)) came) (sym (own_by_octets h.link a b c₁ c₂ c₃ o of.octets_sent)) of.legible
-
-  own : own_header on came ≡ record { refusal = 0; head = number six }
-  own = as_sent on (number six) (x ∷ y ∷ zone) came short eight legible
-
-  readable : beyond_repair h.link came ≡ false
-  unfolding beyond_repair
-  readable = ap (λ (own : Header). not (eqb own.refusal 0)) own
-
-  head_is : primary h.link came ≡ number six
-  unfolding primary
-  head_is = ap (λ (own : Header). own.head) own
-
-  zone_head_is : zone_head h.link came ≡ number (x ∷ y ∷ [])
-  unfolding zone_head
-  zone_head_is =
-      ap (λ (f : List ℕ). number (take 2 f)) (legible.behind_same ∙ behind_sent on (number six) (x ∷ y ∷ zone) short)
+  six : AllOctets (a ∷ b ∷ c₁ ∷ c₂ ∷ c₃ ∷ o ∷ [])
+  six = (all.0, (all.1.0, (all.1.1.0, (all.1.1.1.0, (all.1.1.1.1.0, (all.1.1.1.1.1.0, tt))))))
 
   two : AllOctets (x ∷ y ∷ [])
-  two =
-      let all : AllOctets (x ∷ y ∷ zone) =
-      subst AllOctets (legible.behind_same ∙ behind_sent on (number six) (x ∷ y ∷ zone) short) (all_drop (own_octets on) came legible.octets_came) in
-      (all.0, (all.1.0, tt))
+  two = all.1.1.1.1.1.1
 
-  shape_refused : (spare p : ℕ) → read (spare_above h.width) (number (x ∷ y ∷ [])) ≡ spare → read (pointer_at h.width) (number (x ∷ y ∷ [])) ≡ p
-      → first (shape_rows h came) ≡ by_octets h.link a b o spare (shape_unused h p)
-  unfolding header_rows first by_octets
-  shape_refused spare p s q =
+  shape_refused : (spare p : ℕ) → read (spare_above h.width) (zone_word x y two) ≡ spare → read (pointer_at h.width) (zone_word x y two) ≡ p
+      → length frame ≡ shape_length h → wrong h.link.trailed frame ≡ false
+      → first (shape_rows h frame) ≡ by_octets h.link a b o spare (shape_unused h p)
+  unfolding primary zone_head header_rows first by_octets
+  shape_refused spare p s q long right =
       rw (
-        eq-eqb (length came) (shape_length h) of.right_length,
-        of.right_trailer,
-        readable,
-        head_is,
-        zone_head_is,
-        version_octet a b c₁ c₂ c₃ o of.octets_sent,
-        spacecraft_octets a b c₁ c₂ c₃ o of.octets_sent,
-        channel_octet a b c₁ c₂ c₃ o of.octets_sent,
-        signals_octet a b c₁ c₂ c₃ o of.octets_sent h.link.edition,
+        eq-eqb (length frame) (shape_length h) long,
+        right,
+        version_octet a b c₁ c₂ c₃ o six,
+        spacecraft_octets a b c₁ c₂ c₃ o six,
+        channel_octet a b c₁ c₂ c₃ o six,
+        signals_octet a b c₁ c₂ c₃ o six h.link.edition,
         s,
         q,
       )
       refl
-
--- a frame that can have come of none is beyond repair
-module _ (h : Shape) (came : List ℕ) (all : AllOctets came) (long : length came ≡ shape_length h) (right : wrong h.link.trailed came ≡ false)
-    (none : (a b c₁ c₂ c₃ o x y : ℕ) (zone : List ℕ) → CameOf h.link (shape_length h) a b c₁ c₂ c₃ o x y zone came → ⊥) where
-  wide : 8 ≤ length came
-  wide = omega (arith, long, own_least h.link.controlled)
-
-  came_of : (head : ℕ) (behind : List ℕ) → head < 2 ^ 48 → 2 ≤ length behind → Legible h.link.controlled (own_written h.link.controlled head ++ behind) came → ⊥
-  unfolding octets by_header
-  came_of head (x ∷ y ∷ zone) short two legible =
-      none (head / 256 ^ 5 % 256) (head / 256 ^ 4 % 256) (head / 256 ^ 3 % 256) (head / 256 ^ 2 % 256) (head / 256 ^ 1 % 256) (head / 256 ^ 0 % 256) x y zone
-      (record {
-        octets_sent = all_octets 6 head;
-        legible =
-            subst (λ (g : List ℕ). Legible h.link.controlled (g ++ (x ∷ y ∷ zone)) came)
-            (ap (own_written h.link.controlled) (sym (number_octets 6 head short)) ∙ own_by_octets h.link _ _ _ _ _ _ (all_octets 6 head)) legible;
-        right_length = long;
-        right_trailer = right;
-      })
-  came_of head (x ∷ []) short two legible = absurd (omega arith)
-  came_of head [] short two legible = absurd (omega arith)
-
-  beyond : ((own_header h.link.controlled came).refusal ≡ 0) ⊎ (own_header h.link.controlled came ≡ record { refusal = 14; head = 0 })
-      → (own_header h.link.controlled came).refusal ≡ 14
-  beyond (inl read) =
-      let sent = sent_so h.link.controlled came all wide read in
-      absurd (came_of _ (drop (own_octets h.link.controlled) came) sent.0 (omega (arith, length-drop (own_octets h.link.controlled) came, long)) sent.1)
-  beyond (inr refused) = ap (λ (own : Header). own.refusal) refused
-
-  shape_beyond : first (shape_rows h came) ≡ 14
-  unfolding first beyond_repair
-  shape_beyond = rw (eq-eqb (length came) (shape_length h) long, right, beyond (refused h.link.controlled came)) refl
 
 -- the settings are in range
 ranged : (settled : Bool) (rows : List Row) → settled ≡ true → first (row 1 (not settled) ∷ rows) ≡ first rows
@@ -194,25 +113,18 @@ bit_heading_refusal s f = refusal_kept (λ (g : Heading). g.refusal) (first (bit
 pub refused_by : RefusedBy
 unfolding heading_rows frame_rows frame_length unused bit_heading_rows bit_frame_rows bit_frame_length bit_unused
 refused_by = record {
-  packets = λ s a b c₁ c₂ c₃ o x y zone came ok of.
+  packets = λ s a b c₁ c₂ c₃ o x y zone ok all long right.
       let h : Shape = packet_shape s in
-      let pair = two h a b c₁ c₂ c₃ o x y zone came of in
+      let pair = two h a b c₁ c₂ c₃ o x y zone all in
       heading_refusal s _
       ∙ ranged (in_range s) _ ok
-      ∙ shape_refused h a b c₁ c₂ c₃ o x y zone came of (x / 8) (x % 8 * 256 + y) (spare_octet x y pair) (pointer_octets x y pair);
-  bits = λ s a b c₁ c₂ c₃ o x y zone came ok of.
+      ∙ shape_refused h a b c₁ c₂ c₃ o x y zone all (x / 8) (x % 8 * 256 + y) (spare_octet x y pair) (pointer_octets x y pair) long right;
+  bits = λ s a b c₁ c₂ c₃ o x y zone ok all long right.
       let h : Shape = bits_shape s in
-      let pair = two h a b c₁ c₂ c₃ o x y zone came of in
+      let pair = two h a b c₁ c₂ c₃ o x y zone all in
       bit_heading_refusal s _
       ∙ ranged (bits_in_range s) _ ok
-      ∙ shape_refused h a b c₁ c₂ c₃ o x y zone came of (x / 64) (x % 64 * 256 + y) (bit_spare_octet x y pair) (bit_pointer_octets x y pair);
-}
-
-pub refused_beyond : BeyondRepair
-unfolding heading_rows frame_rows frame_length bit_heading_rows bit_frame_rows bit_frame_length
-refused_beyond = record {
-  packets = λ s came ok all long right none. heading_refusal s came ∙ ranged (in_range s) _ ok ∙ shape_beyond (packet_shape s) came all long right none;
-  bits = λ s came ok all long right none. bit_heading_refusal s came ∙ ranged (bits_in_range s) _ ok ∙ shape_beyond (bits_shape s) came all long right none;
+      ∙ shape_refused h a b c₁ c₂ c₃ o x y zone all (x / 64) (x % 64 * 256 + y) (bit_spare_octet x y pair) (bit_pointer_octets x y pair) long right;
 }
 
 -- ---- what is written

@@ -4,25 +4,24 @@ use Rattle.std.proofs.Common.{◌≡◌, ℕ, ◌+◌, ◌*◌, ◌/◌, ◌%◌
 use lib.Arith.{lt-one}
 use lib.Pow.{mod-pow-add}
 use borrow.Author.Tests.{eqb-false}
-use Rattle.octets.specs.Basics.{AllOctets, number, number_from, octets}
+use Rattle.octets.specs.Basics.{number, number_from, octets}
 use Rattle.octets.proofs.Tests.{test}
 use Rattle.octets.proofs.Numbers.{octets_again}
 use Rattle.words.specs.Fields.{field, read}
 use Rattle.words.proofs.Fields.{field_rest}
-use Rattle.repair.specs.Header.{own_written}
 use Rattle.frames.specs.Edition.{own_width, cycle_place, usage, cycle_width, count_in, signalling}
-use Rattle.frames.specs.Link.{link_in_range, beyond_repair, primary, zone_head, header_rows, written_rows, count_width, head_word, headers, next_count}
+use Rattle.frames.specs.Link.{link_in_range, primary, zone_head, header_rows, written_rows, count_width, head_word, headers, next_count}
 use Rattle.frames.specs.Frame.{in_range, heading_rows, frame_rows, heading, head, head_rows}
 use Rattle.frames.specs.BitFrame.{bits_in_range, bit_heading_rows, bit_frame_rows, bit_heading, bit_head, bit_head_rows}
-use Rattle.frames.specs.Editions.{link_by, by_header, AsOctets, Wheels, SameOctets, Editions}
+use Rattle.frames.specs.Editions.{link_by, AsOctets, Wheels, SameOctets, Editions}
 use Rattle.frames.specs.declared.Edition.TheVariants.{CycleUnused}
 use Rattle.frames.specs.declared.Link.{Link}
 use Rattle.frames.proofs.Settled.{linked}
 use Rattle.frames.proofs.Signals.{two_fields, same_signals, usage_small, cycle_narrow, unused_narrow, used_wide}
-use Rattle.frames.proofs.ByOctets.{own_by_octets, refused_by, refused_beyond, on_wheel}
+use Rattle.frames.proofs.ByOctets.{refused_by, on_wheel}
 use Rattle.frames.proofs.Taken.{taken}
 use Rattle.frames.proofs.Wheel.{after_missing, missing_lt}
-use Rattle.frames.proofs.ReadBack.{version_written, spacecraft_written, channel_written, own_count_written, replay_written, signal_fields, cycle_written, head_word_lt}
+use Rattle.frames.proofs.ReadBack.{version_written, spacecraft_written, channel_written, own_written, replay_written, signal_fields, cycle_written, head_word_lt}
 
 -- ---- the octets
 
@@ -79,7 +78,7 @@ module _ (l : Link) (c r z : ℕ) (range : link_in_range l ≡ true) (fits : c <
         version_written l c r,
         spacecraft_written l c r bounds.spacecraft_most,
         channel_written l c r bounds.channel_most,
-        own_count_written l c r,
+        own_written l c r,
         replay_written l c r flag,
         signal.usage_right,
         signal.spare_clear,
@@ -91,13 +90,16 @@ module _ (l : Link) (c r z : ℕ) (range : link_in_range l ≡ true) (fits : c <
   unfolding number number_from
   six_number = sym (by_fields ∙ omega (arith, count_octets c, div-add-mod' l.spacecraft 4))
 
-  all_six : AllOctets six
-  all_six =
+  six_octets : octets 6 word ≡ six
+  six_octets =
       let bounds = linked l range in
-      let used : usage l.edition ≤ 1 = usage_small l.edition in (
+      let used : usage l.edition ≤ 1 = usage_small l.edition in
+      ap (octets 6) (sym six_number)
+      ∙ octets_again six 0 6 (
         omega (arith, bounds.spacecraft_most),
         (omega (arith, bounds.channel_most), (mod-lt (c / 65536) (omega arith), (mod-lt (c / 256) (omega arith), (mod-lt c (omega arith), (omega (arith, top_small), tt))))),
       )
+      (omega arith)
 
   two_octets : octets 2 z ≡ (z / 256) ∷ (z % 256) ∷ []
   unfolding number number_from
@@ -106,12 +108,9 @@ module _ (l : Link) (c r z : ℕ) (range : link_in_range l ≡ true) (fits : c <
       both : number ((z / 256) ∷ (z % 256) ∷ []) ≡ z
       both = omega (arith, div-add-mod' z 256)
 
-  octet_by_octet : headers l c r z
-      ≡ by_header l (64 + l.spacecraft / 4) (l.spacecraft % 4 * 64 + l.channel) (c / 65536 % 256) (c / 256 % 256) (c % 256) (r * 128 + usage l.edition * 64 + top)
-      ((z / 256) ∷ (z % 256) ∷ [])
-  unfolding headers by_header
-  octet_by_octet =
-      ap₂ ◌++◌ (ap (own_written l.controlled) (sym six_number) ∙ own_by_octets l _ _ _ _ _ _ all_six) two_octets
+  octet_by_octet : headers l c r z ≡ six ++ ((z / 256) ∷ (z % 256) ∷ [])
+  unfolding headers
+  octet_by_octet = ap₂ ◌++◌ six_octets two_octets
 
 as_octets : AsOctets
 as_octets = record { written = octet_by_octet }
@@ -119,7 +118,7 @@ as_octets = record { written = octet_by_octet }
 -- ---- the same octets
 
 same_octets : SameOctets
-unfolding usage cycle_width link_in_range in_range bits_in_range beyond_repair primary zone_head count_width heading heading_rows frame_rows header_rows count_in head head_rows written_rows headers head_word signalling bit_heading bit_heading_rows bit_frame_rows bit_head bit_head_rows
+unfolding usage cycle_width link_in_range in_range bits_in_range primary zone_head count_width heading heading_rows frame_rows header_rows count_in head head_rows written_rows headers head_word signalling bit_heading bit_heading_rows bit_frame_rows bit_head bit_head_rows
 same_octets = record {
   wheel = λ l. refl;
   read = λ s f. rw (same_signals (primary (link_by CycleUnused s.link) f)) refl;
@@ -142,4 +141,4 @@ wheels = record {
 }
 
 pub editions : Editions
-editions = record { as_octets = as_octets; taken = taken; refused_by = refused_by; beyond_repair = refused_beyond; on_wheel = on_wheel; wheels = wheels; same_octets = same_octets }
+editions = record { as_octets = as_octets; taken = taken; refused_by = refused_by; on_wheel = on_wheel; wheels = wheels; same_octets = same_octets }

@@ -6,11 +6,11 @@ use Rattle.octets.specs.Basics.{first}
 use Rattle.octets.proofs.Choices.{and_false}
 use Rattle.trailer.specs.Trailer.{sent, wrong}
 use Rattle.trailer.proofs.Setting.{length-sent, sent_front, sent_part, sent_right}
-use Rattle.frames.specs.Link.{zone_at, count_width}
+use Rattle.frames.specs.Link.{count_width}
 use Rattle.frames.specs.Frame.{in_range, packet_shape, frame_length, frame_rows, zone_of, count, zone_spare_place, pointer_place, pointer, unused, head}
 use Rattle.frames.specs.Statements.{HeadersBack}
 use Rattle.frames.specs.declared.Settings.{Settings}
-use Rattle.frames.proofs.ReadBack.{length-head, head_legible, head_back, shape_taken}
+use Rattle.frames.proofs.ReadBack.{length-head, head_back, shape_taken}
 
 -- a frame of the channel with this count, this pointer and this zone
 unfoldable pub framed : Settings → ℕ → ℕ → List ℕ → List ℕ
@@ -38,14 +38,14 @@ pub record Framed (s : Settings) (c p : ℕ) (z f : List ℕ) : Type 0 where
 
 module _ (s : Settings) (c p : ℕ) (z : List ℕ) (ok : in_range s ≡ true) (wheel : c < 2 ^ count_width s.link) (short : p < 2 ^ 11)
     (fits : length z ≡ s.zone) (used : Used s p) where
-  headed : take (zone_at s.link) (framed s c p z) ≡ head s c p
+  headed : take 8 (framed s c p z) ≡ head s c p
   unfolding framed
   headed =
-      sent_front s.link.trailed (head s c p ++ z) (zone_at s.link) (omega (arith, length-append (head s c p) z, length-head s c p))
-      ∙ take_at (head s c p) z (zone_at s.link) (length-head s c p)
+      sent_front s.link.trailed (head s c p ++ z) 8 (omega (arith, length-append (head s c p) z, length-head s c p))
+      ∙ take_at (head s c p) z 8 (length-head s c p)
 
   back : HeadersBack s.link zone_spare_place pointer_place c 0 p (framed s c p z)
-  back = head_back s c p (framed s c p z) ok wheel short (head_legible s c p (framed s c p z) headed)
+  back = head_back s c p (framed s c p z) ok wheel short headed
 
   long : length (framed s c p z) ≡ frame_length s
   unfolding framed frame_length
@@ -54,8 +54,8 @@ module _ (s : Settings) (c p : ℕ) (z : List ℕ) (ok : in_range s ≡ true) (w
   zoned : zone_of s (framed s c p z) ≡ z
   unfolding framed zone_of
   zoned =
-      sent_part s.link.trailed (head s c p ++ z) (zone_at s.link) s.zone (omega (arith, length-append (head s c p) z, length-head s c p))
-      ∙ rw (drop_at (head s c p) z (zone_at s.link) (length-head s c p)) (take_all s.zone z (omega arith))
+      sent_part s.link.trailed (head s c p ++ z) 8 s.zone (omega (arith, length-append (head s c p) z, length-head s c p))
+      ∙ rw (drop_at (head s c p) z 8 (length-head s c p)) (take_all s.zone z (omega arith))
 
   ended : wrong s.link.trailed (framed s c p z) ≡ false
   unfolding framed

@@ -1,6 +1,6 @@
 -- What a header says, with the numbers as the code reads them.
 -- Assumes nothing.
-use Rattle.std.proofs.Common.{◌≡◌, ℕ, suc, ◌-◌, ◌^◌, ◌<◌, ◌≤◌, Bool, true, not, eqb, ltb, ◌⊎◌, List, ◌∷◌, length, sym, refl, ap, ◌∙◌, inl, inr, le_refl, arith, pow_mono, le-ltb, lt-ltb, eq-eqb, ne_eqb}
+use Rattle.std.proofs.Common.{◌≡◌, ℕ, suc, ◌-◌, ◌^◌, ◌<◌, ◌≤◌, Bool, true, not, eqb, ltb, List, ◌∷◌, length, sym, refl, ◌∙◌, le_refl, arith, pow_mono, le-ltb, lt-ltb, eq-eqb, ne_eqb}
 use native.Mathlib.Nat.{zero-mod}
 use Rattle.octets.specs.Basics.{number_at, row, first}
 use Rattle.words.specs.Fields.{field, placed}
@@ -9,11 +9,7 @@ use Rattle.octets.proofs.Tests.{test}
 use Rattle.words.proofs.Fields.{above_past, field_rest, field_lt, foot_lt, foot_only}
 use Rattle.octets.proofs.Numbers.{number_within}
 use Rattle.trailer.specs.Trailer.{wrong}
-use Rattle.repair.specs.Header.{own_reading, own_header}
-use Rattle.repair.specs.declared.Header.{Header}
-use Rattle.repair.proofs.Changed.{own_least}
-use Rattle.repair.proofs.Setting.{refused}
-use Rattle.frames.specs.Link.{zone_head_at, zone_at, beyond_repair, primary, zone_head}
+use Rattle.frames.specs.Link.{primary, zone_head}
 use Rattle.frames.specs.Shape.{shape_length, both_rows, outer_rows, shape_rows, no_heading, heading_of, heading_by, shape_heading}
 use Rattle.frames.specs.declared.Link.{Link}
 use Rattle.frames.specs.declared.Heading.{Heading}
@@ -46,16 +42,14 @@ spare_fits zone width small =
     narrow h = split width 16 (λ k. k) (λ k. let wide : 2 ^ 16 ≤ 2 ^ width = pow_mono {i = 16} {j = width} (omega arith) in absurd (omega arith))
 
 -- a frame with room for both headers has both
-module _ (l : Link) (f : List ℕ) (room : zone_at l ≤ length f) where
-  pub own_at : own_reading l.controlled (number_at 6 0 f) (number_at 2 6 f) ≡ own_header l.controlled f
-  unfolding own_header
-  own_at =
-      let least : 6 ≤ zone_head_at l = own_least l.controlled in
-      rw (number_within 6 0 f (omega arith), number_within 2 6 f (omega arith)) refl
+module _ (l : Link) (f : List ℕ) (room : 8 ≤ length f) where
+  primary_at : number_at 6 0 f ≡ primary l f
+  unfolding primary
+  primary_at = number_within 6 0 f (omega arith)
 
-  pub zone_number : number_at 2 (zone_head_at l) f ≡ zone_head l f
+  zone_head_at : number_at 2 6 f ≡ zone_head l f
   unfolding zone_head
-  zone_number = number_within 2 (zone_head_at l) f room
+  zone_head_at = number_within 2 6 f room
 
 -- with settings in range, what the shape says
 pub heading_ranged : (h : Shape) (f : List ℕ) {settled : Bool} {g : Shape} {r : Heading} → settled ≡ true → g ≡ h → r ≡ shape_heading g (shape_rows g f) f
@@ -71,31 +65,11 @@ outer_refused h f e some =
     (λ t. test (wrong h.link.trailed f) (λ u. rw (e, t, u) refl) (λ u. absurd (some (e ∙ rw (t, u) refl))))
     (λ t. rw (e, t) refl)
 
--- a frame that is not refused before its headers
-module _ (h : Shape) (f : List ℕ) (none : first (outer_rows h f) ≡ 0) where
-  room : zone_at h.link ≤ length f
-  room = omega (arith, (sound_before h f none).0)
-
-  pub own_right : {own : Header} → own ≡ own_reading h.link.controlled (number_at 6 0 f) (number_at 2 6 f) → own ≡ own_header h.link.controlled f
-  own_right e = e ∙ own_at h.link f room
-
-  -- its own header is beyond repair
-  pub own_refused : {own : Header} → own ≡ own_header h.link.controlled f → (own.refusal ≡ 0 → ⊥) → no_heading own.refusal ≡ shape_heading h (shape_rows h f) f
-  unfolding first heading_of beyond_repair
-  own_refused {own = own} e some =
-      let sound = sound_before h f none in
-      let fourteen : own.refusal ≡ 14 = beyond (refused h.link.controlled f) in
-      rw (eq-eqb _ _ sound.0, sound.1, ← e, fourteen) refl
-    where
-      beyond : ((own_header h.link.controlled f).refusal ≡ 0) ⊎ (own_header h.link.controlled f ≡ record { refusal = 14; head = 0 }) → own.refusal ≡ 14
-      beyond (inl zero) = absurd (some (ap (λ (o : Header). o.refusal) e ∙ zero))
-      beyond (inr all) = ap (λ (o : Header). o.refusal) (e ∙ all)
-
-  -- its heading, by both headers' numbers
-  pub heading_reads : {own : Header} {zone : ℕ} → own ≡ own_header h.link.controlled f → own.refusal ≡ 0 → zone ≡ number_at 2 (zone_head_at h.link) f
-      → heading_by h (first (both_rows h own.head zone)) own.head zone ≡ shape_heading h (shape_rows h f) f
-  unfolding first beyond_repair primary
-  heading_reads {own = own} e read z =
-      let sound = sound_before h f none in
-      let repaired : (own_header h.link.controlled f).refusal ≡ 0 = rw (← e) read in
-      rw (eq-eqb _ _ sound.0, sound.1, eq-eqb _ _ repaired, e, z, zone_number h.link f room) refl
+-- the heading of a frame that is not refused before its headers, by both headers' numbers
+pub heading_reads : (h : Shape) (f : List ℕ) {head zone : ℕ} → first (outer_rows h f) ≡ 0 → head ≡ number_at 6 0 f → zone ≡ number_at 2 6 f
+    → heading_by h (first (both_rows h head zone)) head zone ≡ shape_heading h (shape_rows h f) f
+unfolding first
+heading_reads h f none p z =
+    let sound = sound_before h f none in
+    let room : 8 ≤ length f = omega (arith, sound.0) in
+    rw (eq-eqb _ _ sound.0, sound.1, p, z, primary_at h.link f room, zone_head_at h.link f room) refl

@@ -6,9 +6,8 @@ use Rattle.octets.specs.Basics.{pick, Row, row, first}
 use Rattle.words.specs.Fields.{read}
 use Rattle.octets.proofs.Choices.{and_true, none_holds}
 use Rattle.trailer.specs.Trailer.{wrong}
-use Rattle.repair.specs.Header.{own_header}
 use Rattle.frames.specs.Edition.{signals}
-use Rattle.frames.specs.Link.{beyond_repair, primary, zone_head, header_rows, version_place, spacecraft_place, channel_place}
+use Rattle.frames.specs.Link.{primary, zone_head, header_rows, version_place, spacecraft_place, channel_place}
 use Rattle.frames.specs.Shape.{shape_length, spare_above, pointer_at, shape_unused, outer_rows, shape_rows}
 use Rattle.frames.specs.declared.Link.{Link}
 use Rattle.frames.specs.declared.shape.Shape.{Shape}
@@ -67,18 +66,10 @@ sound_before h f e =
 pub record SoundFrame (h : Shape) (f : List ℕ) : Type 0 where
   pub length-right : length f ≡ shape_length h
   pub trailer_right : wrong h.link.trailed f ≡ false
-  pub readable : (own_header h.link.controlled f).refusal ≡ 0
   pub header : SoundFields h (primary h.link f) (zone_head h.link f)
 
 pub sound_frame : (h : Shape) (f : List ℕ) → first (shape_rows h f) ≡ 0 → SoundFrame h f
-unfolding beyond_repair
 sound_frame h f e =
     let n = none_holds 2 _ _ e in
     let t = none_holds 12 _ _ n.1 in
-    let r = none_holds 13 _ _ t.1 in
-    record {
-      length-right = eqb-true _ _ (not-false _ n.0);
-      trailer_right = t.0;
-      readable = eqb-true _ _ (not-false _ r.0);
-      header = sound_header _ _ _ _ r.1;
-    }
+    record { length-right = eqb-true _ _ (not-false _ n.0); trailer_right = t.0; header = sound_header _ _ _ _ t.1 }

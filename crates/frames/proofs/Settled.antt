@@ -1,7 +1,6 @@
 -- What settings in range are bounded by.
 -- Assumes nothing.
-use Rattle.std.proofs.Common.{◌≡◌, ◌≤◌, Bool, true, false, not, sym, refl, leb-true}
-use Rattle.octets.specs.Basics.{and}
+use Rattle.std.proofs.Common.{◌≡◌, ◌≤◌, true, leb-true}
 use Rattle.octets.proofs.Choices.{and_true}
 use Rattle.frames.specs.Link.{link_in_range}
 use Rattle.frames.specs.Frame.{in_range}
@@ -11,20 +10,12 @@ use Rattle.frames.specs.declared.Settings.{Settings}
 pub record Linked (l : Link) : Type 0 where
   pub spacecraft_most : l.spacecraft ≤ 255
   pub channel_most : l.channel ≤ 62
-  pub not_both : l.trailed ≡ true → l.controlled ≡ false
-
-other_off : (a b : Bool) → not (and a b) ≡ true → a ≡ true → b ≡ false
-other_off true true h e = sym h
-other_off true false h e = refl
-other_off false true h e = sym e
-other_off false false h e = refl
 
 pub linked : (l : Link) → link_in_range l ≡ true → Linked l
 unfolding link_in_range
 linked l e =
     let a = and_true _ _ e in
-    let b = and_true _ _ a.1 in
-    record { spacecraft_most = leb-true _ _ a.0; channel_most = leb-true _ _ b.0; not_both = other_off l.trailed l.controlled b.1 }
+    record { spacecraft_most = leb-true _ _ a.0; channel_most = leb-true _ _ a.1 }
 
 pub record Settled (s : Settings) : Type 0 where
   pub on_link : Linked s.link

@@ -8,7 +8,6 @@ use Rattle.trailer.proofs.Setting.{extra_small}
 use Rattle.trailer.proofs.Bursts.{bursts_seen}
 use Rattle.trailer.proofs.Odd.{odd_seen}
 use Rattle.trailer.proofs.Few.{few_seen}
-use Rattle.repair.proofs.Changed.{own_most}
 use Rattle.frames.specs.Shape.{shape_length, shape_rows}
 use Rattle.frames.specs.Frame.{packet_shape, frame_length, frame_rows}
 use Rattle.frames.specs.BitFrame.{bits_shape, bit_frame_length, bit_frame_rows}
@@ -27,7 +26,7 @@ module _ (h : Shape) (small : h.size ≤ 2047) (on : h.link.trailed ≡ true) (s
   shape_seen = record {
     burst = λ other within. refused (bursts_seen sent came received other within);
     odd = λ number. refused (odd_seen sent came received number);
-    few = λ other number. refused (few_seen sent came received other (omega (arith, extra_small h.link.trailed, own_most h.link.controlled)) number);
+    few = λ other number. refused (few_seen sent came received other (omega (arith, extra_small h.link.trailed)) number);
   }
 
 pub worth : Worth

@@ -40,7 +40,7 @@ bit_spare_place = spare_above 14
 abbrev pub bits_shape : BitSettings → Shape
 bits_shape s = record { link = s.link; size = s.width; width = 14; beyond = most_bits s - 1; last = 16381 }
 
--- W+8, and two more with a trailer or with header error control
+-- W+8, and two more with a trailer
 unfoldable pub bit_frame_length : BitSettings → ℕ
 bit_frame_length s = shape_length (bits_shape s)
 

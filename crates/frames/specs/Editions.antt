@@ -1,14 +1,12 @@
--- What is shown of the headers at each edition, with header error control and without it: both headers octet by octet, that every frame with
--- them is taken, what any other is refused for, how wide the wheel is, and that 732.0-B-3 with usage 0 has the very octets of 701.0-B-2.
+-- What is shown of the editions of the header: both headers octet by octet, that every frame with them is taken, what any other is
+-- refused for, how wide the wheel is, and that 732.0-B-3 with usage 0 has the very octets of 701.0-B-2.
 use Rattle.std.specs.Prelude.{◌≡◌, ℕ, ◌+◌, ◌*◌, ◌/◌, ◌%◌, ◌^◌, ◌<◌, Bool, true, false, not, List, [], ◌∷◌, ◌++◌, length, ◌==◌}
-use Rattle.octets.specs.Basics.{pick, and, AllOctets, number, octets, row, first}
+use Rattle.octets.specs.Basics.{and, AllOctets, row, first}
 use Rattle.trailer.specs.Trailer.{sent, wrong}
-use Rattle.repair.specs.Code.{checks}
-use Rattle.repair.specs.Changes.{Legible}
 use Rattle.frames.specs.Edition.{own_width, usage}
 use Rattle.frames.specs.Link.{link_in_range, count_width, headers, next_count, missing}
-use Rattle.frames.specs.Frame.{in_range, frame_length, zone_of, unused, heading, pointer_word, head, head_rows}
-use Rattle.frames.specs.BitFrame.{bits_in_range, bit_frame_length, bit_zone_of, bit_unused, bit_heading, bit_pointer_word, bit_head, bit_head_rows}
+use Rattle.frames.specs.Frame.{in_range, frame_length, unused, heading, pointer_word, head, head_rows}
+use Rattle.frames.specs.BitFrame.{bits_in_range, bit_frame_length, bit_unused, bit_heading, bit_pointer_word, bit_head, bit_head_rows}
 use Rattle.frames.specs.declared.Edition.{Edition}
 use Rattle.frames.specs.declared.Edition.TheVariants.{Former, CycleUnused, CycleUsed}
 use Rattle.frames.specs.declared.Link.{Link}
@@ -17,7 +15,7 @@ use Rattle.frames.specs.declared.bits.BitSettings.{BitSettings}
 
 -- the same settings at another edition
 abbrev pub link_by : Edition → Link → Link
-link_by e l = record { spacecraft = l.spacecraft; channel = l.channel; trailed = l.trailed; controlled = l.controlled; edition = e }
+link_by e l = record { spacecraft = l.spacecraft; channel = l.channel; trailed = l.trailed; edition = e }
 
 abbrev pub settings_by : Edition → Settings → Settings
 settings_by e s = record { link = link_by e s.link; zone = s.zone; limit = s.limit; fill = s.fill }
@@ -25,35 +23,24 @@ settings_by e s = record { link = link_by e s.link; zone = s.zone; limit = s.lim
 abbrev pub bit_settings_by : Edition → BitSettings → BitSettings
 bit_settings_by e s = record { link = link_by e s.link; width = s.width; fill = s.fill }
 
--- What stands between the headers: with error control the check symbols of the first two octets and of the signalling octet, and else nothing.
-unfoldable pub between : Link → ℕ → ℕ → ℕ → List ℕ
-between l a b o = pick l.controlled (octets 2 (checks (number (a ∷ b ∷ o ∷ [])))) []
-
--- A frame by its octets: its first two, the three of the count, the signalling octet, and what follows its own header.
-unfoldable pub by_header : Link → ℕ → ℕ → ℕ → ℕ → ℕ → ℕ → List ℕ → List ℕ
-by_header l a b c₁ c₂ c₃ o rest = a ∷ b ∷ c₁ ∷ c₂ ∷ c₃ ∷ o ∷ (between l a b o ++ rest)
-
 -- Both headers with this count, replay flag and number of the zone's header. The signalling octet has the replay flag, the usage flag, two spare bits,
 -- and what the count has above the three octets before it.
 pub record AsOctets : Type 0 where
   pub written : (l : Link) (c r z : ℕ) → link_in_range l ≡ true → c < 2 ^ count_width l → r < 2 → z < 65536
       → headers l c r z
-      ≡ by_header l (64 + l.spacecraft / 4) (l.spacecraft % 4 * 64 + l.channel)
-      (c / 65536 % 256) (c / 256 % 256) (c % 256) (r * 128 + usage l.edition * 64 + c / 2 ^ own_width)
-      ((z / 256) ∷ (z % 256) ∷ [])
+      ≡ (64 + l.spacecraft / 4) ∷ (l.spacecraft % 4 * 64 + l.channel)
+      ∷ (c / 65536 % 256) ∷ (c / 256 % 256) ∷ (c % 256) ∷ (r * 128 + usage l.edition * 64 + c / 2 ^ own_width)
+      ∷ (z / 256) ∷ (z % 256) ∷ []
 
--- A frame with these headers and a zone, sent with its trailer where the channel has one, is taken, and read as what it was made of, also with the replay
--- flag; with error control even where it comes with any two of the ten symbols of its header changed. `HeadersRead.again` is the other way round: a
--- frame that is not refused is one of these.
+-- A frame with these headers and a zone, sent with its trailer where the channel has one, is taken, and read as what it was made of; also with the replay
+-- flag. `HeadersRead.again` is the other way round: a frame that is not refused is one of these.
 pub record Taken : Type 0 where
-  pub packets : (s : Settings) (c r p : ℕ) (zone came : List ℕ) → in_range s ≡ true → c < 2 ^ count_width s.link → r < 2 → p < 2 ^ 11
-      → unused s p ≡ false → length zone ≡ s.zone
-      → Legible s.link.controlled (sent s.link.trailed (headers s.link c r (pointer_word p) ++ zone)) came
-      → (heading s came ≡ record { refusal = 0; count = c; replay = r; pointer = p }) × (zone_of s came ≡ zone)
-  pub bits : (s : BitSettings) (c r p : ℕ) (zone came : List ℕ) → bits_in_range s ≡ true → c < 2 ^ count_width s.link → r < 2 → p < 2 ^ 14
+  pub packets : (s : Settings) (c r p : ℕ) (zone : List ℕ) → in_range s ≡ true → c < 2 ^ count_width s.link → r < 2 → p < 2 ^ 11 → unused s p ≡ false
+      → length zone ≡ s.zone
+      → heading s (sent s.link.trailed (headers s.link c r (pointer_word p) ++ zone)) ≡ record { refusal = 0; count = c; replay = r; pointer = p }
+  pub bits : (s : BitSettings) (c r p : ℕ) (zone : List ℕ) → bits_in_range s ≡ true → c < 2 ^ count_width s.link → r < 2 → p < 2 ^ 14
       → bit_unused s p ≡ false → length zone ≡ s.width
-      → Legible s.link.controlled (sent s.link.trailed (headers s.link c r (bit_pointer_word p) ++ zone)) came
-      → (bit_heading s came ≡ record { refusal = 0; count = c; replay = r; pointer = p }) × (bit_zone_of s came ≡ zone)
+      → bit_heading s (sent s.link.trailed (headers s.link c r (bit_pointer_word p) ++ zone)) ≡ record { refusal = 0; count = c; replay = r; pointer = p }
 
 -- No count that is not on the wheel is written.
 pub record OnWheel : Type 0 where
@@ -75,30 +62,14 @@ by_octets l a b o spare unused =
     ∷ row 7 unused
     ∷ [])
 
--- A frame of the right length and with the right trailer came so from one with this header, and with x and y for the zone's.
-pub record CameOf (l : Link) (size a b c₁ c₂ c₃ o x y : ℕ) (zone came : List ℕ) : Type 0 where
-  pub octets_sent : AllOctets (a ∷ b ∷ c₁ ∷ c₂ ∷ c₃ ∷ o ∷ [])
-  pub legible : Legible l.controlled (by_header l a b c₁ c₂ c₃ o (x ∷ y ∷ zone)) came
-  pub right_length : length came ≡ size
-  pub right_trailer : wrong l.trailed came ≡ false
-
--- Then it is refused for what that header says, whatever it says: with error control for what is repaired.
+-- So it is for every frame of the right length and with the right trailer, by its eight octets a b, the count's three, the signalling octet o, x and y.
 pub record RefusedBy : Type 0 where
-  pub packets : (s : Settings) (a b c₁ c₂ c₃ o x y : ℕ) (zone came : List ℕ) → in_range s ≡ true
-      → CameOf s.link (frame_length s) a b c₁ c₂ c₃ o x y zone came
-      → (heading s came).refusal ≡ by_octets s.link a b o (x / 8) (unused s (x % 8 * 256 + y))
-  pub bits : (s : BitSettings) (a b c₁ c₂ c₃ o x y : ℕ) (zone came : List ℕ) → bits_in_range s ≡ true
-      → CameOf s.link (bit_frame_length s) a b c₁ c₂ c₃ o x y zone came
-      → (bit_heading s came).refusal ≡ by_octets s.link a b o (x / 64) (bit_unused s (x % 64 * 256 + y))
-
--- And where it can have come so from none, it is refused by 14, whatever else is wrong with it but for its length and its trailer.
-pub record BeyondRepair : Type 0 where
-  pub packets : (s : Settings) (came : List ℕ) → in_range s ≡ true → AllOctets came → length came ≡ frame_length s → wrong s.link.trailed came ≡ false
-      → ((a b c₁ c₂ c₃ o x y : ℕ) (zone : List ℕ) → CameOf s.link (frame_length s) a b c₁ c₂ c₃ o x y zone came → ⊥)
-      → (heading s came).refusal ≡ 14
-  pub bits : (s : BitSettings) (came : List ℕ) → bits_in_range s ≡ true → AllOctets came → length came ≡ bit_frame_length s → wrong s.link.trailed came ≡ false
-      → ((a b c₁ c₂ c₃ o x y : ℕ) (zone : List ℕ) → CameOf s.link (bit_frame_length s) a b c₁ c₂ c₃ o x y zone came → ⊥)
-      → (bit_heading s came).refusal ≡ 14
+  pub packets : (s : Settings) (a b c₁ c₂ c₃ o x y : ℕ) (zone : List ℕ) → in_range s ≡ true → AllOctets (a ∷ b ∷ c₁ ∷ c₂ ∷ c₃ ∷ o ∷ x ∷ y ∷ [])
+      → length (a ∷ b ∷ c₁ ∷ c₂ ∷ c₃ ∷ o ∷ x ∷ y ∷ zone) ≡ frame_length s → wrong s.link.trailed (a ∷ b ∷ c₁ ∷ c₂ ∷ c₃ ∷ o ∷ x ∷ y ∷ zone) ≡ false
+      → (heading s (a ∷ b ∷ c₁ ∷ c₂ ∷ c₃ ∷ o ∷ x ∷ y ∷ zone)).refusal ≡ by_octets s.link a b o (x / 8) (unused s (x % 8 * 256 + y))
+  pub bits : (s : BitSettings) (a b c₁ c₂ c₃ o x y : ℕ) (zone : List ℕ) → bits_in_range s ≡ true → AllOctets (a ∷ b ∷ c₁ ∷ c₂ ∷ c₃ ∷ o ∷ x ∷ y ∷ [])
+      → length (a ∷ b ∷ c₁ ∷ c₂ ∷ c₃ ∷ o ∷ x ∷ y ∷ zone) ≡ bit_frame_length s → wrong s.link.trailed (a ∷ b ∷ c₁ ∷ c₂ ∷ c₃ ∷ o ∷ x ∷ y ∷ zone) ≡ false
+      → (bit_heading s (a ∷ b ∷ c₁ ∷ c₂ ∷ c₃ ∷ o ∷ x ∷ y ∷ zone)).refusal ≡ by_octets s.link a b o (x / 64) (bit_unused s (x % 64 * 256 + y))
 
 -- The wheel has 2^24 counts, and 2^28 with usage 1. On a wheel of any width, as many frames are missing before c as the count has to go on from the one after
 -- `last`, and fewer than there are counts.
@@ -125,7 +96,6 @@ pub record Editions : Type 0 where
   pub as_octets : AsOctets
   pub taken : Taken
   pub refused_by : RefusedBy
-  pub beyond_repair : BeyondRepair
   pub on_wheel : OnWheel
   pub wheels : Wheels
   pub same_octets : SameOctets

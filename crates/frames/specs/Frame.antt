@@ -41,7 +41,7 @@ zone_spare_place = spare_above 11
 abbrev pub packet_shape : Settings → Shape
 packet_shape s = record { link = s.link; size = s.zone; width = 11; beyond = s.zone; last = 2045 }
 
--- Z+8, and two more with a trailer or with header error control
+-- Z+8, and two more with a trailer
 unfoldable pub frame_length : Settings → ℕ
 frame_length s = shape_length (packet_shape s)
 

@@ -5,13 +5,12 @@ use Rattle.octets.specs.Basics.{and, number, octets, Row, row}
 use Rattle.words.specs.Fields.{read, write}
 use Rattle.words.specs.declared.Place.{Place}
 use Rattle.trailer.specs.Trailer.{extra, wrong}
-use Rattle.repair.specs.Header.{own_octets, own_written, own_header}
 use Rattle.frames.specs.Edition.{own_width, count_place, cycle_width, signals, signalling}
 use Rattle.frames.specs.declared.Link.{Link}
 
--- spacecraft 0 to 255, channel 0 to 62; not a trailer and header error control together
+-- spacecraft 0 to 255, channel 0 to 62
 unfoldable pub link_in_range : Link → Bool
-link_in_range l = and (nat_le l.spacecraft 255) (and (nat_le l.channel 62) (not (and l.trailed l.controlled)))
+link_in_range l = and (nat_le l.spacecraft 255) (nat_le l.channel 62)
 
 -- the fields of the frame's own header, six octets from the most significant bit; behind these the count and the signalling octet
 abbrev pub version_place : Place
@@ -23,34 +22,26 @@ spacecraft_place = record { below = 38; width = 8 }
 abbrev pub channel_place : Place
 channel_place = record { below = 32; width = 6 }
 
--- where the zone's header stands: after the frame's own, which has check symbols where the channel has header error control
-abbrev pub zone_head_at : Link → ℕ
-zone_head_at l = own_octets l.controlled
-
--- the zone begins after both
+-- the zone begins after the frame's own header and the zone's
 abbrev pub zone_at : Link → ℕ
-zone_at l = zone_head_at l + 2
+zone_at l = 8
 
 -- what a frame has around its zone: the headers before it and, where the channel has one, the trailer behind it
 abbrev pub around : Link → ℕ
 around l = zone_at l + extra l.trailed
 
--- the two headers as numbers: the frame's own as it is read, which with error control is repaired
+-- the two headers as numbers
 unfoldable pub primary : Link → List ℕ → ℕ
-primary l f = (own_header l.controlled f).head
+primary l f = number (take 6 f)
 
 unfoldable pub zone_head : Link → List ℕ → ℕ
-zone_head l f = number (take 2 (drop (zone_head_at l) f))
+zone_head l f = number (take 2 (drop 6 f))
 
 -- the trailer is not that of the octets before it
 abbrev pub trailer_row : Link → List ℕ → Row
 trailer_row l f = row 13 (wrong l.trailed f)
 
--- the frame's own header is beyond repair
-unfoldable pub beyond_repair : Link → List ℕ → Bool
-beyond_repair l f = not ((own_header l.controlled f).refusal == 0)
-
--- what the rows after that look at: the frame's own header, the zone's spare bits, and whether the pointer is one that is not used
+-- what the rows after the trailer's look at: the frame's own header, the zone's spare bits, and whether the pointer is one that is not used
 unfoldable pub header_rows : Link → ℕ → ℕ → Bool → List Row
 header_rows l head zone_spare unused =
     row 4 (not (read version_place head == 1))
@@ -79,7 +70,7 @@ head_word l c r =
 
 -- both headers as they are written: the frame's own, and the zone's with this number
 unfoldable pub headers : Link → ℕ → ℕ → ℕ → List ℕ
-headers l c r z = own_written l.controlled (head_word l c r) ++ octets 2 z
+headers l c r z = octets 6 (head_word l c r) ++ octets 2 z
 
 -- the wheel, over its width: the count after c, and how many frames are missing between `last` and c, for any two numbers
 unfoldable pub next_count : ℕ → ℕ → ℕ

@@ -16,7 +16,7 @@ signal CycleUsed = 0x40
 
 -- Z = 10, M = 1,024
 abbrev pub channel_3 : Edition → Settings
-channel_3 e = record { link = record { spacecraft = 66; channel = 3; trailed = false; controlled = false; edition = e }; zone = 10; limit = 1024; fill = 0x55 }
+channel_3 e = record { link = record { spacecraft = 66; channel = 3; trailed = false; edition = e }; zone = 10; limit = 1024; fill = 0x55 }
 
 -- the sample's second frame with another pointer
 abbrev pub pointing : Edition → ℕ → List ℕ
@@ -30,7 +30,7 @@ pub record Pass5 (e : Edition) : Type 0 where
 
 -- W = 1
 abbrev pub one_octet : Edition → BitSettings
-one_octet e = record { link = record { spacecraft = 66; channel = 3; trailed = false; controlled = false; edition = e }; width = 1; fill = 0x55 }
+one_octet e = record { link = record { spacecraft = 66; channel = 3; trailed = false; edition = e }; width = 1; fill = 0x55 }
 
 -- a frame of one octet with these two octets before the zone
 abbrev pub bits_pointing : Edition → ℕ → ℕ → List ℕ

@@ -5,7 +5,7 @@ use Rattle.octets.specs.Basics.{pick, and, Row, row, first}
 use Rattle.words.specs.Fields.{read, write}
 use Rattle.words.specs.declared.Place.{Place}
 use Rattle.frames.specs.Edition.{replay_place, count_in}
-use Rattle.frames.specs.Link.{zone_at, around, trailer_row, beyond_repair, primary, zone_head, header_rows, written_rows, headers}
+use Rattle.frames.specs.Link.{zone_at, around, trailer_row, primary, zone_head, header_rows, written_rows, headers}
 use Rattle.frames.specs.declared.Link.{Link}
 use Rattle.frames.specs.declared.Heading.{Heading}
 use Rattle.frames.specs.declared.shape.Shape.{Shape}
@@ -32,7 +32,7 @@ spare_above width = record { below = width; width = 16 - width }
 abbrev pub shape_unused : Shape → ℕ → Bool
 shape_unused h p = and (nat_le h.beyond p) (nat_le p h.last)
 
--- what the rows of both headers say, by their numbers
+-- what the rows after the trailer's say, by the numbers of both headers
 abbrev pub both_rows : Shape → ℕ → ℕ → List Row
 both_rows h head zone =
     header_rows h.link head (read (spare_above h.width) zone) (shape_unused h (read (pointer_at h.width) zone))
@@ -41,13 +41,9 @@ both_rows h head zone =
 abbrev pub outer_rows : Shape → List ℕ → List Row
 outer_rows h f = row 3 (not (length f == shape_length h)) ∷ trailer_row h.link f ∷ []
 
--- what it is refused for by its headers: its own is beyond repair, or what they say is not right
-abbrev pub inner_rows : Shape → List ℕ → List Row
-inner_rows h f = row 14 (beyond_repair h.link f) ∷ both_rows h (primary h.link f) (zone_head h.link f)
-
 -- all that it is refused for, in order
 abbrev pub shape_rows : Shape → List ℕ → List Row
-shape_rows h f = outer_rows h f ++ inner_rows h f
+shape_rows h f = outer_rows h f ++ both_rows h (primary h.link f) (zone_head h.link f)
 
 -- a refusal alone
 abbrev pub no_heading : ℕ → Heading

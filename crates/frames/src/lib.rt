@@ -11,7 +11,7 @@ pub mod bits;
 mod shape;
 mod signal;
 
-pub use shape::{around, zone_at};
+pub use shape::around;
 
 // The edition of the frame header that a link follows, which says what stands below the replay flag.
 #[derive(Drop)]
@@ -24,14 +24,12 @@ pub enum Edition {
     CycleUsed,
 }
 
-// The spacecraft and the channel that every frame of a link names, whether each ends with a trailer, whether its header has error control,
-// and the header's edition.
+// The spacecraft and the channel that every frame of a link names, whether each ends with a trailer, and the edition of its header.
 #[derive(Drop)]
 pub struct Link {
     pub spacecraft: u32,
     pub channel: u32,
     pub trailed: bool,
-    pub controlled: bool,
     pub edition: Edition,
 }
 
@@ -58,6 +56,9 @@ pub const IDLE_ZONE: usize = 2046;
 
 pub const NO_START: usize = 2047;
 
+// The zone begins after the frame's own header and the zone's.
+pub const ZONE_AT: usize = 8;
+
 // A judged run has so many frames at most.
 pub const MOST_FRAMES: u32 = 16777216;
 
@@ -73,7 +74,7 @@ const LAST_UNUSED: u64 = 2045;
 pub(crate) fn link_in_range(l: Link) -> bool
     ensures { result ≡ link_in_range l }
 {
-    (l.spacecraft <= 255) & ((l.channel <= 62) & !(l.trailed & l.controlled))
+    (l.spacecraft <= 255) & (l.channel <= 62)
 }
 
 pub fn in_range(s: Settings) -> bool

@@ -1,12 +1,12 @@
 // The frames of both channels: their headers read and written, over the shape in which the channels differ.
-ghost use Rattle.std.specs.Prelude.{◌≡◌, ◌^◌, ◌≤◌, true, length, ◌==◌, nat_lt};
+ghost use Rattle.std.specs.Prelude.{◌≡◌, ◌^◌, true, ◌==◌, nat_lt};
 ghost use Rattle.octets.specs.Basics.{pick, first, over};
-ghost use Rattle.frames.specs.Link.{zone_at, around, head_word};
+ghost use Rattle.frames.specs.Link.{around, head_word};
 ghost use Rattle.frames.specs.Shape.{octets_of, pointer_at, shape_unused, both_rows, outer_rows, shape_rows, no_heading, heading_by, shape_heading, shape_head, shape_head_rows};
 ghost use Rattle.frames.specs.declared.Link.{Link};
 
 use super::signal::{COUNT, REPLAY};
-use super::{Heading, Link, signal};
+use super::{Heading, Link, ZONE_AT, signal};
 use octets::refusals;
 use words::Place;
 
@@ -36,22 +36,11 @@ const CHANNEL: Place = Place {
     width: 6,
 };
 
-// The zone's header has so many octets.
-const ZONE_HEAD: usize = 2;
-
-// Where the zone begins: after the frame's own header and the zone's.
-pub fn zone_at(l: Link) -> usize
-    ensures value { result ≡ zone_at l }
-    ensures upper_bound { result ≤ 10 }
-{
-    repair::own_octets(l.controlled) + ZONE_HEAD
-}
-
 // How many octets a frame has around its zone.
 pub fn around(l: Link) -> usize
     ensures { result ≡ around l }
 {
-    zone_at(l) + trailer::extra(l.trailed)
+    ZONE_AT + trailer::extra(l.trailed)
 }
 
 // Whether a frame with so many octets in its zone has so many octets.
@@ -166,15 +155,7 @@ pub(crate) fn read_headers(h: Shape, frame: &[u8]) -> Heading
     requires { first (outer_rows h frame.now) ≡ 0 }
     ensures { result ≡ shape_heading h (shape_rows h frame.now) frame.now }
 {
-    let own = repair::read_own(h.link.controlled, frame);
-    if own.refusal != 0 {
-        return refused(own.refusal);
-    }
-    heading(
-        h,
-        own.head,
-        octets::number2(frame, repair::own_octets(h.link.controlled)),
-    )
+    heading(h, octets::number6(frame, 0), octets::number2(frame, 6))
 }
 
 // The frame's own header, as a number.
@@ -188,18 +169,6 @@ fn head_word(l: Link, count: u32, replay: u8) -> u64
     words::placed(craft, VERSION, 1)
 }
 
-// Puts both headers of the frame with this count and pointer at the front of buf, where there is room for them.
-fn put_headers(h: Shape, count: u32, pointer: u16, buf: &mut [u8])
-    requires { zone_at h.link ≤ length buf.old }
-    ensures { buf.new ≡ over buf.old 0 (shape_head h count pointer) }
-{
-    let head = head_word(h.link, count, 0);
-    let zone = words::placed(0, pointer_at(h), pointer as u64);
-    octets::put(buf, 0, 6, head);
-    repair::put_checks(h.link.controlled, buf, head);
-    octets::put(buf, repair::own_octets(h.link.controlled), ZONE_HEAD, zone);
-}
-
 // Writes both headers of the frame with this count and pointer at the front of buf, with settings in range; nothing, and the row's
 // number, where they are refused.
 pub(crate) fn write_head(h: Shape, count: u32, pointer: u16, buf: &mut [u8]) -> u8
@@ -210,9 +179,10 @@ pub(crate) fn write_head(h: Shape, count: u32, pointer: u16, buf: &mut [u8]) -> 
     if !((count < super::wheel_of(h.link)) & pointed) {
         return refusals::SETTING;
     }
-    if buf.len() < zone_at(h.link) {
+    if buf.len() < ZONE_AT {
         return refusals::ROOM;
     }
-    put_headers(h, count, pointer, buf);
+    octets::put(buf, 0, 6, head_word(h.link, count, 0));
+    octets::put(buf, 6, 2, words::placed(0, pointer_at(h), pointer as u64));
     0
 }

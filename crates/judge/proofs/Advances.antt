@@ -64,7 +64,7 @@ passed_leaves s last held f ok h =
       octets = c.held;
       in_step_still = entered_state h.enters ∙ ap (walked_to s f) (on ∙ c.gives);
       bounded =
-          omega (arith, length_zone s f (accepted s f h.enters.accepted).right_length, length-append held z, length-append (end_to_end c.done) c.held, ap length c.octets);
+          omega (arith, length_zone s f (accepted s f h.enters.accepted).right-length, length-append held z, length-append (end_to_end c.done) c.held, ap length c.octets);
     })
 
 -- a record between frames that stands for being in step holds just those octets

@@ -8,7 +8,7 @@ use Rattle.multiplexer.specs.declared.Mux.{Mux}
 
 -- a channel with zones of 300 octets and the fill octet 55
 unfoldable pub sample : Edition → Settings
-sample e = record { link = record { spacecraft = 66; channel = 3; trailed = false; controlled = false; edition = e }; zone = 300; limit = 1024; fill = 0x55 }
+sample e = record { link = record { spacecraft = 66; channel = 3; trailed = false; edition = e }; zone = 300; limit = 1024; fill = 0x55 }
 
 -- the end of the zone that a flush leaves, from the r octets that were left
 unfoldable pub flushed : Edition → ℕ → List ℕ

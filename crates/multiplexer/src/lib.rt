@@ -6,7 +6,7 @@ ghost use Rattle.multiplexer.specs.Multiplex.{begun, mux_reachable, lent_rows, p
 ghost use Rattle.multiplexer.specs.Calls.{to_put, to_flush, to_idle, doing, answers, answer};
 ghost use Rattle.multiplexer.specs.Laying.{Fills, Counted, PacketLaid};
 
-use frames::{IDLE_ZONE, NO_START, Settings};
+use frames::{IDLE_ZONE, NO_START, Settings, ZONE_AT};
 use octets::refusals;
 use packets::damage;
 
@@ -139,7 +139,7 @@ fn count_in(s: Settings, m: Mux, start: usize, n: usize, taken: usize, frame: &m
 {
     if m.filled + n == s.zone {
         frames::write_head(s, m.count, start as u16, frame);
-        trailer::end_frame(s.link.trailed, frame, frames::zone_at(s.link) + s.zone);
+        trailer::end_frame(s.link.trailed, frame, ZONE_AT + s.zone);
         return Mux {
             count: frames::next_count(s.link, m.count),
             filled: 0,
@@ -178,7 +178,7 @@ fn lay_packet(s: Settings, m: Mux, p: &[u8], frame: &mut [u8]) -> Reply
 {
     let from = m.taken;
     let n = octets::least(s.zone - m.filled, p.len() - from);
-    octets::lay(frame, frames::zone_at(s.link) + m.filled, p, from, from + n);
+    octets::lay(frame, ZONE_AT + m.filled, p, from, from + n);
     packet_laid(s, m, n, p.len(), frame)
 }
 
@@ -188,7 +188,7 @@ fn lay_idle_packet(s: Settings, m: Mux, frame: &mut [u8]) -> Reply
     ensures { answers result frame.new ≡ doing (put s m (idle_packet s.fill (s.zone - m.filled)) frame.old) }
 {
     let left = s.zone - m.filled;
-    wrapping::write_idle(frame, frames::zone_at(s.link) + m.filled, left, s.fill);
+    wrapping::write_idle(frame, ZONE_AT + m.filled, left, s.fill);
     let start = start_now(m);
     Reply::Done {
         full: true,
@@ -202,7 +202,7 @@ fn lay_idle_zone(s: Settings, m: Mux, frame: &mut [u8]) -> Reply
     requires { first (idle_rows s m (length frame.old)) ≡ 0 }
     ensures { answers result frame.new ≡ doing (idle_frame s m frame.old) }
 {
-    octets::fill(frame, frames::zone_at(s.link) + m.filled, s.zone, s.fill);
+    octets::fill(frame, ZONE_AT + m.filled, s.zone, s.fill);
     Reply::Done {
         full: true,
         taken: false,

@@ -121,7 +121,7 @@ module _ (s : Settings) (fit : fits s ≡ true) (clear : s.fill ≡ 0) where
 
 -- the least zone and the least limit
 abbrev least : Settings
-least = record { link = record { spacecraft = 0; channel = 0; trailed = false; controlled = false; edition = Former }; zone = 1; limit = 7; fill = 0 }
+least = record { link = record { spacecraft = 0; channel = 0; trailed = false; edition = Former }; zone = 1; limit = 7; fill = 0 }
 
 least_fits : fits least ≡ true
 unfolding fits plain in_range link_in_range

@@ -17,7 +17,7 @@ setup_length = 7
 unfoldable pub setup_of : List ℕ → Settings
 setup_of body =
     record {
-      link = record { spacecraft = get_or body 0 0; channel = get_or body 1 0; trailed = false; controlled = false; edition = Former };
+      link = record { spacecraft = get_or body 0 0; channel = get_or body 1 0; trailed = false; edition = Former };
       zone = number_at 2 2 body;
       limit = number_at 3 4 body;
       fill = 0;
@@ -25,7 +25,7 @@ setup_of body =
 
 -- what a setup says nothing of is as it was before there were settings for it: no trailer, and the header of 701.0-B-2
 unfoldable pub plain : Link → Bool
-plain l = and (is_former l.edition) (and (not l.trailed) (not l.controlled))
+plain l = and (is_former l.edition) (not l.trailed)
 
 -- within the numbers, and M here at most 4,096
 unfoldable pub fits : Settings → Bool

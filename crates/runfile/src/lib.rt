@@ -40,7 +40,6 @@ fn setup_of(body: &[u8]) -> Settings
         spacecraft: octets::octet(body, 0) as u32,
         channel: octets::octet(body, 1) as u32,
         trailed: false,
-        controlled: false,
         edition: Edition::Former,
     };
     Settings {
@@ -57,7 +56,7 @@ fn is_plain(l: Link) -> bool
 {
     let edition = l.edition;
     match edition {
-        Edition::Former => !l.trailed & !l.controlled,
+        Edition::Former => !l.trailed,
         Edition::CycleUnused => false,
         Edition::CycleUsed => false,
     }
@@ -108,7 +107,7 @@ fn frame_length(s: Settings) -> usize
     requires { fits s ≡ true }
     ensures { result ≡ frame_length s }
 {
-    s.zone + frames::zone_at(s.link)
+    s.zone + frames::ZONE_AT
 }
 
 // How many octets of body the next record has, by its kind; 0 where it is bad.

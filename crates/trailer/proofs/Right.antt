@@ -25,11 +25,11 @@ use Rattle.trailer.proofs.Remainders.{all_bits_bits, remainder-append, remainder
 
 -- ---- two octets more
 
-value-append : (xs ys : List ℕ) → value (xs ++ ys) ≡ value xs * 2 ^ length ys + value ys
+value_append : (xs ys : List ℕ) → value (xs ++ ys) ≡ value xs * 2 ^ length ys + value ys
 unfolding value
-value-append [] ys = omega arith
-value-append (x ∷ xs) ys =
-    ap₂ (λ (p v : ℕ). x * p + v) (ap (λ (n : ℕ). 2 ^ n) (length-append xs ys) ∙ pow-add 2 (length xs) (length ys)) (value-append xs ys)
+value_append [] ys = omega arith
+value_append (x ∷ xs) ys =
+    ap₂ (λ (p v : ℕ). x * p + v) (ap (λ (n : ℕ). 2 ^ n) (length-append xs ys) ∙ pow-add 2 (length xs) (length ys)) (value_append xs ys)
     ∙ sym (ap (λ (z : ℕ). z + value ys) (add-mul (x * 2 ^ length xs) (value xs) (2 ^ length ys)
     ∙ ap (λ (z : ℕ). z + value xs * 2 ^ length ys) (mul_assoc x (2 ^ length xs) (2 ^ length ys)))
     ∙ add_assoc (x * (2 ^ length xs * 2 ^ length ys)) (value xs * 2 ^ length ys) (value ys))
@@ -43,7 +43,7 @@ unfolding number number_from bits
 two_value a b ha hb =
     let e : value (bits 8 a) ≡ a = value_bits 8 a ∙ mod-eq_of_lt ha in
     let f : value (bits 8 b) ≡ b = value_bits 8 b ∙ mod-eq_of_lt hb in
-    value-append (bits 8 a) (bits 8 b) ∙ ap₂ (λ (x y : ℕ). x * 256 + y) e f ∙ omega arith
+    value_append (bits 8 a) (bits 8 b) ∙ ap₂ (λ (x y : ℕ). x * 256 + y) e f ∙ omega arith
 
 -- the register after two octets: their number is added to it, and it is moved sixteen times
 two_octets : (r : ℕ) (ys : List ℕ) → r < 2 ^ 16 → AllOctets ys → length ys ≡ 2 → divided r (all_bits ys) ≡ moves 16 (bit_xor r (number ys))

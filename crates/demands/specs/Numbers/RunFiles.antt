@@ -12,7 +12,7 @@ use Rattle.demands.specs.Numbers.Samples.{lent}
 
 -- the settings that a setup has
 abbrev pub set : ℕ → ℕ → ℕ → ℕ → Settings
-set spacecraft channel zone limit = record { link = record { spacecraft = spacecraft; channel = channel; trailed = false; controlled = false; edition = Former }; zone = zone; limit = limit; fill = 0 }
+set spacecraft channel zone limit = record { link = record { spacecraft = spacecraft; channel = channel; trailed = false; edition = Former }; zone = zone; limit = limit; fill = 0 }
 
 -- the setup of the sample run, and the progress of its reader after so many frames
 abbrev pub setup : List ℕ

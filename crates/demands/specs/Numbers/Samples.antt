@@ -9,10 +9,10 @@ use Rattle.frames.specs.declared.bits.BitSettings.{BitSettings}
 -- settings of a packet channel by spacecraft, channel, Z and M, and of a bitstream channel by spacecraft, channel and W
 abbrev pub set : ℕ → ℕ → ℕ → ℕ → Settings
 set spacecraft channel zone limit =
-    record { link = record { spacecraft = spacecraft; channel = channel; trailed = false; controlled = false; edition = Former }; zone = zone; limit = limit; fill = 0x55 }
+    record { link = record { spacecraft = spacecraft; channel = channel; trailed = false; edition = Former }; zone = zone; limit = limit; fill = 0x55 }
 
 abbrev pub set_bits : ℕ → ℕ → ℕ → BitSettings
-set_bits spacecraft channel width = record { link = record { spacecraft = spacecraft; channel = channel; trailed = false; controlled = false; edition = Former }; width = width; fill = 0x55 }
+set_bits spacecraft channel width = record { link = record { spacecraft = spacecraft; channel = channel; trailed = false; edition = Former }; width = width; fill = 0x55 }
 
 -- spacecraft 66, channel 3, Z = 10, M = 12; the same with Z = 0; and the least zone and limit
 abbrev pub small : Settings

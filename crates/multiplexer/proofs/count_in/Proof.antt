@@ -9,19 +9,18 @@ use Rattle.multiplexer.proofs.count_in.Tie as tie
 
 add-end : tie.Need-overflow-add-end-frame
 add-end c =
-    let at_start = c.before.before.before.before.before.before.before.before.before.before.before in
-    record { fits = omega (arith, (settled at_start.args.s at_start.requires.settled).zone_most, c.before.zone_at.ensures.1) }
+    let at_start = c.before.before.before.before.before.before.before.before.before.before in
+    record { fits = omega (arith, (settled at_start.args.s at_start.requires.settled).zone_most) }
 
 returns : tie.Need-returns
 returns c =
     let at-end = c.before.before.before in
-    let at-zone = at-end.before.before in
-    let at_head = at-zone.before.before.before.before in
+    let at_head = at-end.before.before.before.before.before in
     let at-if1 = at_head.before.before in
     let at_start = at-if1.before.before.before.before in
     rw c.next_count.ensures
     (counted_full at_start.args.taken at_start.requires at-if1.if1.true at_head.write_head.ensures.0 at_head.write_head.ensures.1
-    (rw at-zone.zone_at.ensures.0 at at-end.end_frame.ensures))
+    at-end.end_frame.ensures)
 
 returns-2 : tie.Need-returns-2
 returns-2 c =
@@ -34,7 +33,6 @@ count-in-spec =
     (tie.spec
     (λ c. search rules)
     (λ c. search rules)
-    (λ c κs. search rules)
     (λ c κs. search rules)
     add-end
     (λ c κs. search rules)

@@ -6,7 +6,6 @@ use Prim.Native.Nat.{ℕ, ◌+◌, ◌-◌}
 use native.Mathlib.Omega.{arith}
 use lib.ListN.{length}
 use borrow.Author.Tests.{eq-eqb}
-use Rattle.frames.specs.Link.{zone_at}
 use Rattle.frames.specs.Frame.{frame_length}
 use Rattle.wrapping.specs.Idle.{idle_packet}
 use Rattle.wrapping.proofs.Idles.{idle-length, idle_admits}
@@ -38,14 +37,14 @@ sub-left c =
 
 add-zone : tie.Need-overflow-add-write-idle
 add-zone c =
-    let w = passed c.before.before.before.before.before.before in
-    record { fits = omega (arith, c.before.zone_at.ensures.1) }
+    let w = passed c.before.before.before.before.before in
+    record { fits = omega arith }
 
 count-in-requires : tie.Need-count-in-requires
 count-in-requires c κs =
     let at_now = c.before in
     let at-write = at_now.before.before.before in
-    let at_start = at-write.before.before.before.before.before.before.before in
+    let at_start = at-write.before.before.before.before.before.before in
     let a = at_start.args in
     let w = passed at_start in
     rw at_now.start_now.ensures
@@ -58,21 +57,19 @@ returns c =
     let at_count = c.before.before in
     let at_now = at_count.before.before in
     let at-write = at_now.before.before.before in
-    let at-zone = at-write.before.before in
-    let at_start = at-zone.before.before.before.before.before in
+    let at_start = at-write.before.before.before.before.before.before in
     let a = at_start.args in
     let w = passed at_start in
-    let zone : at-zone.zone_at.result ≡ zone_at a.s.link = at-zone.zone_at.ensures.0 in
     let l = long at_start in
     let left : ℕ = a.s.zone - a.m.filled in
     let whole : a.m.taken + left ≡ left = omega arith in
     let full : a.m.filled + left ≡ a.s.zone = omega arith in
-    let answer = at-write.write_idle.ensures.0 ∙ idle_admits a.frame.now (at-zone.zone_at.result + a.m.filled) left (omega arith) (omega arith) (omega (arith, w.0.lent.enough)) in
+    let answer = at-write.write_idle.ensures.0 ∙ idle_admits a.frame.now (8 + a.m.filled) left (omega arith) (omega arith) (omega (arith, w.0.lent.enough)) in
     let laid = put_laid a.s a.m left left _ 0 (omega arith) at_now.start_now.ensures (rw (eq-eqb _ _ whole) refl) at_count.count_in.ensures in
     rw (eq-eqb _ _ full, eq-eqb _ _ whole) at (laid (packet at_start) a.frame.now l (omega arith)
-    (rw (part_all (packet at_start) a.m.taken _ w.1 l) (rw (eq-eqb _ _ answer, zone) at at-write.write_idle.ensures.1)))
+    (rw (part_all (packet at_start) a.m.taken _ w.1 l) (rw (eq-eqb _ _ answer) at at-write.write_idle.ensures.1)))
 
 pub lay-idle-packet-spec : {M : Type 1} → statement M
 lay-idle-packet-spec =
     tie.close
-    (tie.spec sub-left (λ c κs. search rules) add-zone (λ c κs. search rules) (λ c κs. search rules) count-in-requires (λ c. search rules) returns)
+    (tie.spec sub-left add-zone (λ c κs. search rules) (λ c κs. search rules) count-in-requires (λ c. search rules) returns)

@@ -16,27 +16,26 @@ passed c = idle_passed c.args.s c.args.m (length c.args.frame.now) c.requires
 
 add-fill : tie.Need-overflow-add-fill
 add-fill c =
-    let w = passed c.before.before.before.before in
-    record { fits = omega (arith, c.before.zone_at.ensures.1) }
+    let w = passed c.before.before.before in
+    record { fits = omega arith }
 
 count-in-requires : tie.Need-count-in-requires
 count-in-requires c κs =
     let at_fill_lem = c.before.before.before in
-    let w = passed at_fill_lem.before.before.before.before.before in
+    let w = passed at_fill_lem.before.before.before.before in
     accepted_fills idle_zone _ _ w.0 at_fill_lem.fill.auto.0 (omega arith) (pointer_beyond _ idle_zone (omega arith)) (omega arith)
 
 returns : tie.Need-returns
 returns c =
     let at_count = c.before.before in
     let at_fill_lem = at_count.before.before.before.before in
-    let at-zone = at_fill_lem.before.before in
-    let at_start = at-zone.before.before.before in
+    let at_start = at_fill_lem.before.before.before.before in
     let a = at_start.args in
     let w = passed at_start in
     let long = length-replicate a.s.zone a.s.fill in
     zone_laid a.s a.m a.frame.now
-    (laid_in a.frame.now w.0 (replicate a.s.zone a.s.fill) (omega arith) (rw at-zone.zone_at.ensures.0 at at_fill_lem.fill.ensures.left))
+    (laid_in a.frame.now w.0 (replicate a.s.zone a.s.fill) (omega arith) at_fill_lem.fill.ensures.left)
     at_count.count_in.ensures
 
 pub lay-idle-zone-spec : {M : Type 1} → statement M
-lay-idle-zone-spec = tie.close (tie.spec (λ c κs. search rules) add-fill (λ c κs. search rules) count-in-requires (λ c. search rules) returns)
+lay-idle-zone-spec = tie.close (tie.spec add-fill (λ c κs. search rules) count-in-requires (λ c. search rules) returns)

@@ -25,8 +25,8 @@ sub-rest c = (passed c.before.before.before.before).1
 
 add-zone : tie.Need-overflow-add-lay
 add-zone c =
-    let w = passed c.before.before.before.before.before.before.before.before in
-    record { fits = omega (arith, c.before.zone_at.ensures.1) }
+    let w = passed c.before.before.before.before.before.before.before in
+    record { fits = omega arith }
 
 -- what is laid stays within the zone and the packet
 within : (c : tie.After-least) →
@@ -39,7 +39,7 @@ within c =
 packet-laid-requires : tie.Need-packet-laid-requires
 packet-laid-requires c κs =
     let at-lay = c.before.before.before in
-    let at_least_lem = at-lay.before.before.before.before in
+    let at_least_lem = at-lay.before.before.before in
     let at_start = at_least_lem.before.before.before.before.before in
     let a = at_start.args in
     let w = (passed at_start).0 in
@@ -51,13 +51,12 @@ unfolding fits_now
 returns c =
     let at-answer = c.before.before in
     let at-lay = at-answer.before.before.before.before in
-    let at-zone = at-lay.before.before in
-    let at_least_lem = at-zone.before.before in
+    let at_least_lem = at-lay.before.before.before in
     let at_start = at_least_lem.before.before.before.before.before in
     let a = at_start.args in
     let h = within at_least_lem in
     at-answer.packet_laid.ensures a.p.now a.frame.now refl at_least_lem.least.ensures
-    (part_laid_in a.frame.now (passed at_start).0 a.p.now a.m.taken _ h.1 h.0 (rw at-zone.zone_at.ensures.0 at at-lay.lay.ensures.left))
+    (part_laid_in a.frame.now (passed at_start).0 a.p.now a.m.taken _ h.1 h.0 at-lay.lay.ensures.left)
 
 pub lay-packet-spec : {M : Type 1} → statement M
 lay-packet-spec =
@@ -65,7 +64,6 @@ lay-packet-spec =
     (tie.spec
     sub-room
     sub-rest
-    (λ c κs. search rules)
     (λ c κs. search rules)
     add-zone
     (λ c. search rules)

@@ -35,7 +35,7 @@ returns-3 c =
     let at_read = at-match.before in
     let a = at_read.before.before.before.args in
     let l = in_range a.limit a.packet.now at_read.read_header.result at-match.match.keys2 at_read.read_header.ensures in
-    at_call.by_header.ensures a.limit a.packet.now l refl at_read.read_header.ensures
+    at_call.by-header.ensures a.limit a.packet.now l refl at_read.read_header.ensures
 
 pub route-spec : {M : Type 1} → statement M
 route-spec =

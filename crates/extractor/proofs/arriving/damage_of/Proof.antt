@@ -24,30 +24,27 @@ walks : (c : tie.Start) → Walks c.args.s (held_in c.args.x) 0 c.args.store.now
 walks c = arriving_walks (arrives c.args.s c.args.x c.args.store.now c.args.frame.now c.requires.0)
 
 add-to : tie.Need-overflow-add-to
-add-to c = record { fits = omega (arith, plain (walks c.before.before.before.before.before), c.before.zone_at.ensures.1) }
+add-to c = record { fits = omega (arith, plain (walks c.before.before.before.before)) }
 
 length-across-requires : tie.Need-length-across-requires
 length-across-requires c κs =
-    let at-zone = c.before.before in
-    let at_start = at-zone.before.before.before.before in
+    let at_start = c.before.before.before.before.before in
     let a = at_start.args in
     let w = walks at_start in
     let p = plain w in
-    let placed = at-zone.zone_at.ensures.0 in
     rw c.held_in.ensures
-    ((omega (arith, p), omega (arith, p)), ((omega (arith, p), omega (arith, p, placed)), said a.s a.store.now (held_in a.x) a.stated at_start.requires.1.0 w.holds))
+    ((omega (arith, p), omega (arith, p)), ((omega (arith, p), omega (arith, p)), said a.s a.store.now (held_in a.x) a.stated at_start.requires.1.0 w.holds))
 
 returns-2 : tie.Need-returns-2
 returns-2 c =
     let at-across = c.before in
     let at_held = at-across.before in
-    let at-zone = at_held.before.before in
-    let at-if1 = at-zone.before in
+    let at-if1 = at_held.before.before in
     let at_start = at-if1.before.before.before in
     let a = at_start.args in
-    damage_reason a.s a.x a.store.now a.frame.now at_start.requires.1.1 at-if1.if1.false (record { begins = omega (arith, at-zone.zone_at.ensures.0); ends = omega (arith, at-zone.zone_at.ensures.0) })
+    damage_reason a.s a.x a.store.now a.frame.now at_start.requires.1.1 at-if1.if1.false
     (c.damage_in.ensures ∙ ap damage_in (rw at_held.held_in.ensures at at-across.length-across.ensures))
 
 pub damage-of-spec : {M : Type 1} → statement M
 damage-of-spec =
-    tie.close (tie.spec returns (λ c κs. search rules) add-to (λ c κs. search rules) length-across-requires (λ c κs. search rules) returns-2)
+    tie.close (tie.spec returns add-to (λ c κs. search rules) length-across-requires (λ c κs. search rules) returns-2)

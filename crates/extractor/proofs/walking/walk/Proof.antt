@@ -1,56 +1,47 @@
 -- `walking::walk` meets its contract: at each return what is at hand says which case of the definition holds.
 -- Assumes nothing.
 use mathlib.Core.Path.{refl, ◌∙◌}
-use Prim.Native.Nat.{◌+◌}
 use native.Mathlib.Omega.{arith}
-use Rattle.extractor.proofs.Steps.{Placed, plain, step_torn, step_kept, kept_room, whole_there, step_frame}
+use Rattle.extractor.proofs.Steps.{plain, step_torn, step_kept, kept_room, whole_there, step_frame}
 use borrow.Author.Rules.{rules}
 use Rattle.extractor.proofs.walking.walk.Statement.{statement}
 use Rattle.extractor.proofs.walking.walk.Tie as tie
 
 -- the place where the function is entered, from the one where it is known what is at hand
 abbrev start : tie.After-at-hand → tie.Start
-start c = c.before.before.before.before.before.before.before
-
--- where the zone begins
-abbrev zoned : tie.After-at-hand → tie.After-zone-at
-zoned c = c.before.before.before.before
-
-placed : (c : tie.After-at-hand) → let a = (start c).args in Placed a.s a.at ((zoned c).zone_at.result + a.at) ((zoned c).zone_at.result + a.s.zone)
-placed c = record { begins = omega (arith, (zoned c).zone_at.ensures.0); ends = omega (arith, (zoned c).zone_at.ensures.0) }
+start c = c.before.before.before.before.before.before
 
 add-from : tie.Need-overflow-add-from
-add-from c = record { fits = omega (arith, plain c.before.before.before.requires, c.zone_at.ensures.1) }
+add-from c = record { fits = omega (arith, plain c.before.before.requires) }
 
 add-to : tie.Need-overflow-add-to
-add-to c = record { fits = omega (arith, plain c.before.before.before.before.requires, c.before.zone_at.ensures.1) }
+add-to c = record { fits = omega (arith, plain c.before.before.before.requires) }
 
 sub-left : tie.Need-overflow-sub-left
-sub-left c = omega (arith, plain c.before.before.before.before.requires)
+sub-left c = omega (arith, plain c.before.before.before.requires)
 
 part-left-start : tie.Need-slice-bounds-left-start
-part-left-start c = omega (arith, plain c.before.before.before.before.requires)
+part-left-start c = omega (arith, plain c.before.before.before.requires)
 
 part-left-end : tie.Need-slice-bounds-left-end
-part-left-end c = omega (arith, plain c.before.before.before.before.requires, c.before.zone_at.ensures.0)
+part-left-end c = omega (arith, plain c.before.before.before.requires)
 
 sub-at-hand : tie.Need-overflow-sub-at-hand
-sub-at-hand c = omega (arith, plain c.before.before.before.before.before.requires)
+sub-at-hand c = omega (arith, plain c.before.before.before.before.requires)
 
 keep-requires : tie.Need-keep-requires
 keep-requires c κs =
     let at_hand = c.before.before.before in
     let p = plain (start at_hand).requires in
-    let r = kept_room (start at_hand).requires (placed at_hand) (start at_hand).args.last _ at_hand.before.read_length.ensures (omega arith) at_hand.at_hand.ensures
+    let r = kept_room (start at_hand).requires (start at_hand).args.last _ at_hand.before.read_length.ensures (omega arith) at_hand.at_hand.ensures
     c.before.enum_told.given.1 in
-    let zone = (zoned at_hand).zone_at.ensures.0 in
-    ((omega (arith, p), omega (arith, p, zone)), r)
+    ((omega (arith, p), omega (arith, p)), r)
 
 add-onward : tie.Need-overflow-add-onward
 add-onward c =
     let at-total = c.before.before in
     let at_hand = at-total.before.before in
-    let k = (whole_there (start at_hand).requires (placed at_hand) (start at_hand).args.last _ at_hand.before.read_length.ensures (omega arith) at_hand.at_hand.ensures
+    let k = (whole_there (start at_hand).requires (start at_hand).args.last _ at_hand.before.read_length.ensures (omega arith) at_hand.at_hand.ensures
     at-total.total.given.1).1 in
     record { fits = omega (arith, plain (start at_hand).requires, k) }
 
@@ -58,30 +49,29 @@ returns : tie.Need-returns
 returns c =
     let at_hand = c.before.before.before.before in
     rw (c.abandoned.ensures.0, c.abandoned.ensures.1)
-    (step_torn (start at_hand).requires (placed at_hand) (start at_hand).args.last _ at_hand.before.read_length.ensures (omega arith) at_hand.at_hand.ensures
+    (step_torn (start at_hand).requires (start at_hand).args.last _ at_hand.before.read_length.ensures (omega arith) at_hand.at_hand.ensures
     c.before.before.damage.given.1)
 
 returns-2 : tie.Need-returns-2
 returns-2 c =
     let at_hand = c.before.before.before.before.before.before in
     c.before.before.keep.ensures
-    ∙ step_kept (start at_hand).requires (placed at_hand) (start at_hand).args.last _ at_hand.before.read_length.ensures (omega arith) at_hand.at_hand.ensures
+    ∙ step_kept (start at_hand).requires (start at_hand).args.last _ at_hand.before.read_length.ensures (omega arith) at_hand.at_hand.ensures
     c.before.before.before.before.enum_told.given.1
 
 returns-3 : tie.Need-returns-3
 returns-3 c =
     let at-total = c.before.before.before in
     let at_hand = at-total.before.before in
-    let (e, k) = whole_there (start at_hand).requires (placed at_hand) (start at_hand).args.last _ at_hand.before.read_length.ensures (omega arith) at_hand.at_hand.ensures
+    let (e, k) = whole_there (start at_hand).requires (start at_hand).args.last _ at_hand.before.read_length.ensures (omega arith) at_hand.at_hand.ensures
     at-total.total.given.1 in
     rw c.onward.ensures
-    (step_frame (start at_hand).requires (placed at_hand) (start at_hand).args.last _ at_hand.before.read_length.ensures e k _ refl c.before.is_idle.ensures)
+    (step_frame (start at_hand).requires (start at_hand).args.last _ at_hand.before.read_length.ensures e k _ refl c.before.is_idle.ensures)
 
 pub walk-spec : {M : Type 1} → statement M
 walk-spec =
     tie.close
     (tie.spec
-    (λ c κs. search rules)
     add-from
     add-to
     sub-left

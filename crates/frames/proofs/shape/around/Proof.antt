@@ -1,15 +1,12 @@
 -- `frames::shape::around` meets its contract: a trailer has two octets at most.
 -- Assumes nothing.
-use Rattle.std.proofs.Common.{◌+◌, ap₂, arith}
+use Rattle.std.proofs.Common.{arith, rules}
 use Rattle.trailer.proofs.Setting.{extra_small}
 use Rattle.frames.proofs.shape.around.Statement.{statement}
 use Rattle.frames.proofs.shape.around.Tie as tie
 
 add-result : tie.Need-overflow-add-result
-add-result c = record { fits = omega (arith, c.extra.ensures, extra_small c.before.before.args.l.trailed, c.before.zone_at.ensures.1) }
-
-returns : tie.Need-returns
-returns c = ap₂ ◌+◌ c.before.zone_at.ensures.0 c.extra.ensures
+add-result c = record { fits = omega (arith, c.extra.ensures, extra_small c.before.args.l.trailed) }
 
 pub around-spec : {M : Type 1} → statement M
-around-spec = tie.close (tie.spec (λ c κs. tt) (λ c κs. tt) add-result returns)
+around-spec = tie.close (tie.spec (λ c κs. tt) add-result (λ c. search rules))
