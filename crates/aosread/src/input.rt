@@ -6,14 +6,14 @@ use libc::{STDERR_FILENO, STDIN_FILENO};
 use runfile::Progress;
 
 // The octets of the buffer that are read and not yet taken.
-#[derive(Drop)]
+#[derive(Clone, Copy)]
 pub(crate) struct Unread {
     pub(crate) from: usize,
     pub(crate) to: usize,
 }
 
 // A record, or that the input has ended.
-#[derive(Drop)]
+#[derive(Clone, Copy)]
 pub(crate) struct Record {
     pub(crate) ended: bool,
     pub(crate) kind: u8,

@@ -15,14 +15,14 @@ mod input;
 mod lines;
 
 // The extractor's record after a frame, and how many octets of text wait to be written.
-#[derive(Drop)]
+#[derive(Clone, Copy)]
 struct Heard {
     next: Extractor,
     waiting: usize,
 }
 
 // Both records after a frame, and the text that waits.
-#[derive(Drop)]
+#[derive(Clone, Copy)]
 struct Run {
     extractor: Extractor,
     judge: Judge,

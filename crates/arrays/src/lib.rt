@@ -1,4 +1,6 @@
 // Numbers in lent arrays, as the calls for C have their settings, records and answers.
+#![tactic(auto)]
+
 ghost use Rattle.std.specs.Prelude.{◌≡◌, ◌≤◌, length, get_or};
 ghost use Rattle.octets.specs.Basics.{over, fits, Lays};
 ghost use Rattle.arrays.specs.Arrays.{told, kept, handed_on, bit, octet_of, count_of};

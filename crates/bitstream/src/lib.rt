@@ -11,20 +11,20 @@ use octets::refusals;
 use words::Place;
 
 // What a writer keeps between calls: the count of the next frame.
-#[derive(Drop)]
+#[derive(Clone, Copy)]
 pub struct Writer {
     pub count: u32,
 }
 
 // The refusal, 0 for none, and the writer after the call.
-#[derive(Drop)]
+#[derive(Clone, Copy)]
 pub struct Written {
     pub refusal: u8,
     pub writer: Writer,
 }
 
 // What a reader keeps between calls.
-#[derive(Drop)]
+#[derive(Clone, Copy)]
 pub enum Reader {
     // No frame yet.
     Fresh,
@@ -33,7 +33,7 @@ pub enum Reader {
 }
 
 // What a frame says, or the number that it is refused for, with all else 0; and the reader after the call.
-#[derive(Drop)]
+#[derive(Clone, Copy)]
 pub struct Reading {
     pub refusal: u8,
     pub count: u32,

@@ -136,7 +136,7 @@ pub(crate) fn is_entered(x: Extractor) -> bool
 }
 
 // The first octets of those held and those that follow, eight at most: as many as a header has.
-#[derive(Drop)]
+#[derive(Clone, Copy)]
 struct Start {
     front: [u8; 8],
     n: usize,

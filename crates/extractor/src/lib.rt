@@ -16,7 +16,7 @@ mod held;
 mod walking;
 
 // What an extractor keeps between calls.
-#[derive(Drop)]
+#[derive(Clone, Copy)]
 pub enum Extractor {
     // No frame yet: out of step, and no last count.
     Fresh,
@@ -33,7 +33,7 @@ pub enum Extractor {
 // What is said of a frame that is entered: its count and replay flag, how many frames are missing before it, how many of the
 // octets held are dropped, and why: 0 they are not, 1 frames are missing, 2 the pointer differs, 3 their header is damaged; and
 // with 3 what is wrong with it.
-#[derive(Drop)]
+#[derive(Clone, Copy)]
 pub struct Entry {
     pub count: u32,
     pub replay: u8,
@@ -44,7 +44,7 @@ pub struct Entry {
 }
 
 // What entering answers.
-#[derive(Drop)]
+#[derive(Clone, Copy)]
 pub enum Entered {
     // The call is refused by this number.
     Refused { refusal: u8 },
@@ -53,14 +53,14 @@ pub enum Entered {
 }
 
 // What entering answers, and the record after it.
-#[derive(Drop)]
+#[derive(Clone, Copy)]
 pub struct Entering {
     pub entered: Entered,
     pub next: Extractor,
 }
 
 // What a step finds.
-#[derive(Drop)]
+#[derive(Clone, Copy)]
 pub enum Found {
     // Nothing: the call is refused by this number.
     Refused {
@@ -86,14 +86,14 @@ pub enum Found {
 }
 
 // What a step finds, and the record after it.
-#[derive(Drop)]
+#[derive(Clone, Copy)]
 pub struct Move {
     pub found: Found,
     pub next: Extractor,
 }
 
 // What spending a frame is refused for, 0 where it is not, and the record after it.
-#[derive(Drop)]
+#[derive(Clone, Copy)]
 pub struct Spending {
     pub refusal: u8,
     pub next: Extractor,

@@ -8,7 +8,7 @@ use super::{Heading, Link, shape};
 use octets::refusals;
 
 // The settings of one bitstream channel: W, and the octet that fills what no bit takes.
-#[derive(Drop)]
+#[derive(Clone, Copy)]
 pub struct BitSettings {
     pub link: Link,
     pub width: usize,

@@ -14,7 +14,7 @@ mod signal;
 pub use shape::around;
 
 // The edition of the frame header that a link follows, which says what stands below the replay flag.
-#[derive(Drop)]
+#[derive(Clone, Copy)]
 pub enum Edition {
     // CCSDS 701.0-B-2: seven spare bits.
     Former,
@@ -25,7 +25,7 @@ pub enum Edition {
 }
 
 // The spacecraft and the channel that every frame of a link names, whether each ends with a trailer, and the edition of its header.
-#[derive(Drop)]
+#[derive(Clone, Copy)]
 pub struct Link {
     pub spacecraft: u32,
     pub channel: u32,
@@ -34,7 +34,7 @@ pub struct Link {
 }
 
 // The settings of one packet channel: Z, M and the octet that fills what no packet takes.
-#[derive(Drop)]
+#[derive(Clone, Copy)]
 pub struct Settings {
     pub link: Link,
     pub zone: usize,
@@ -43,7 +43,7 @@ pub struct Settings {
 }
 
 // What the header of a frame says, or the number that the frame is refused for; then all else is 0.
-#[derive(Drop)]
+#[derive(Clone, Copy)]
 pub struct Heading {
     pub refusal: u8,
     pub count: u32,

@@ -12,7 +12,7 @@ use words::Place;
 
 // What the channels differ in: the octets of the zone; the bits of the pointer, which has the spare bits of the zone's header above it;
 // and the pointers that are not used, from the first beyond the zone to the last.
-#[derive(Drop)]
+#[derive(Clone, Copy)]
 pub(crate) struct Shape {
     pub link: Link,
     pub size: usize,

@@ -11,7 +11,7 @@ mod record;
 mod trial;
 
 // What a judge keeps between frames.
-#[derive(Drop)]
+#[derive(Clone, Copy)]
 pub enum Judge {
     // No frame yet: in step, nothing held, no last count.
     Open,
@@ -22,14 +22,14 @@ pub enum Judge {
 }
 
 // What a frame or a tape is refused for, 0 where it is not, and the record after it.
-#[derive(Drop)]
+#[derive(Clone, Copy)]
 pub struct Judged {
     pub refusal: u8,
     pub next: Judge,
 }
 
 // What closing answers.
-#[derive(Drop)]
+#[derive(Clone, Copy)]
 pub enum Closed {
     // The call is refused by this number.
     Refused { refusal: u8 },

@@ -11,7 +11,7 @@ use octets::refusals;
 use packets::damage;
 
 // What a multiplexer keeps between calls.
-#[derive(Drop)]
+#[derive(Clone, Copy)]
 pub struct Mux {
     // The count of the frame that is being filled.
     pub count: u32,
@@ -24,7 +24,7 @@ pub struct Mux {
 }
 
 // What a call answers, with the record to go on with.
-#[derive(Drop)]
+#[derive(Clone, Copy)]
 pub enum Reply {
     // The number of the refusal, and of refusal 8 what is wrong with the packet's header, or 0; the record is the one that was given.
     Refused { refusal: u8, damage: u8, mux: Mux },

@@ -1,4 +1,6 @@
 // Octets and numbers: numbers read from octets and written as octets.
+#![tactic(auto)]
+
 ghost use Rattle.std.specs.Prelude.{◌≡◌, ◌+◌, ◌-◌, ◌≤◌, min, length, take, drop, get_or, replicate, leb};
 ghost use Rattle.octets.specs.Basics.{number, number_at, part_of, octets, over, fits, laid, part_fits, laid_part, Lays};
 

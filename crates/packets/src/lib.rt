@@ -1,4 +1,6 @@
 // Packets read: the one header reader, the test for well-formed packets, and unwrapping.
+#![tactic(auto)]
+
 ghost use Rattle.std.specs.Prelude.{◌≡◌, ◌/◌, ◌≤◌, length, get_or};
 ghost use Rattle.octets.specs.Basics.{and, number_at};
 ghost use Rattle.words.specs.Fields.{read};
@@ -50,14 +52,14 @@ pub const EXTENDED_PROTOCOL: u8 = 6;
 pub const EXTENSION: Place = Place { below: 0, width: 4 };
 
 // The kinds of packet.
-#[derive(Drop)]
+#[derive(Clone, Copy)]
 pub enum Kind {
     Space,
     Encapsulation,
 }
 
 // What the first octets of a packet tell.
-#[derive(Drop)]
+#[derive(Clone, Copy)]
 pub enum Header {
     // The limit is out of range.
     Refused {
@@ -80,7 +82,7 @@ pub enum Header {
 }
 
 // What the first octets of a packet say of its length.
-#[derive(Drop)]
+#[derive(Clone, Copy)]
 pub enum Seen {
     More,
     Damaged { damage: u8 },

@@ -10,7 +10,7 @@ use super::{
 use octets::refusals;
 
 // What comes of unwrapping a packet.
-#[derive(Drop)]
+#[derive(Clone, Copy)]
 pub enum Unwrapped {
     // The number of the refusal; and of refusal 8 what is wrong with the packet's header, or 0.
     Refused {

@@ -17,7 +17,7 @@ pub const MOST_ENTRIES: usize = 32;
 const MOST_APID: u16 = 2046;
 
 // An APID, and one destination of its packets.
-#[derive(Drop)]
+#[derive(Clone, Copy)]
 pub struct Entry {
     pub apid: u16,
     pub destination: u8,
@@ -30,21 +30,21 @@ const NO_ENTRY: Entry = Entry {
 };
 
 // A relay table: its entries are the first `count`.
-#[derive(Drop)]
+#[derive(Clone, Copy)]
 pub struct Table {
     pub count: usize,
     pub entries: [Entry; MOST_ENTRIES],
 }
 
 // What comes of loading: the refusal, or 0, and the table to go on with.
-#[derive(Drop)]
+#[derive(Clone, Copy)]
 pub struct Loaded {
     pub refusal: u8,
     pub table: Table,
 }
 
 // What comes of routing a packet.
-#[derive(Drop)]
+#[derive(Clone, Copy)]
 pub enum Routed {
     // The number of the refusal; and of refusal 8 what is wrong with the packet's header, or 0.
     Refused { refusal: u8, damage: u8 },
@@ -55,7 +55,7 @@ pub enum Routed {
 }
 
 // The destinations of one APID: the first `count`.
-#[derive(Drop)]
+#[derive(Clone, Copy)]
 struct Listed {
     count: usize,
     list: [u8; MOST_ENTRIES],

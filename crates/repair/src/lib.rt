@@ -10,14 +10,14 @@ use octets::refusals;
 use words::Place;
 
 // The word that another is read as; or the refusal, and the word 0.
-#[derive(Drop)]
+#[derive(Clone, Copy)]
 pub struct Repaired {
     pub refusal: u8,
     pub word: u64,
 }
 
 // A header of six octets as it is read; or the refusal, and the header 0.
-#[derive(Drop)]
+#[derive(Clone, Copy)]
 pub struct Header {
     pub refusal: u8,
     pub head: u64,

@@ -7,7 +7,7 @@ ghost use Rattle.runfile.specs.Steps.{next_record, bad, reachable, body_length, 
 use frames::{Edition, Link, MOST_FRAMES, Settings};
 
 // How far the reading of a run file is, between two records.
-#[derive(Drop)]
+#[derive(Clone, Copy)]
 pub enum Progress {
     // Before the setup.
     Start,

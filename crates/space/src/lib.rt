@@ -1,4 +1,6 @@
 // Primary headers of space packets, read and written field by field. The version is 000: any other begins no space packet.
+#![tactic(auto)]
+
 ghost use Rattle.std.specs.Prelude.{◌≡◌, ◌≤◌};
 ghost use Rattle.words.specs.Fields.{read};
 ghost use Rattle.space.specs.Space.{space_word, space_in_range, space_reading, space_reads, space_writes, space_writing};
@@ -7,7 +9,7 @@ use octets::refusals;
 use words::Place;
 
 // The seven fields.
-#[derive(Drop)]
+#[derive(Clone, Copy)]
 pub struct SpaceHeader {
     pub version: u8,
     pub packet_type: u8,
@@ -19,7 +21,7 @@ pub struct SpaceHeader {
 }
 
 // What comes of reading a header.
-#[derive(Drop)]
+#[derive(Clone, Copy)]
 pub enum SpaceRead {
     Refused { refusal: u8 },
     Read { header: SpaceHeader },

@@ -1,4 +1,6 @@
 // The frame error control field of source 004: a remainder of 16 bits over all octets before it.
+#![tactic(auto)]
+
 ghost use Rattle.std.specs.Prelude.{◌≡◌};
 ghost use Rattle.trailer.specs.Division.{bits, divided, remainder, Remainders};
 ghost use Rattle.trailer.specs.Trailer.{right, with_trailer, extra, wrong, ended};

@@ -4,7 +4,7 @@ use crate::{hex, text};
 use frames::Edition;
 
 // What is asked of the multiplexer.
-#[derive(Drop)]
+#[derive(Clone, Copy)]
 pub(crate) enum Call {
     Put,
     Flush,
@@ -12,7 +12,7 @@ pub(crate) enum Call {
 }
 
 // What is asked of packets alone, or of octets.
-#[derive(Drop)]
+#[derive(Clone, Copy)]
 pub(crate) enum Question {
     // So many octets DD, wrapped.
     Wrap,
@@ -31,7 +31,7 @@ pub(crate) enum Question {
     Remainder,
 }
 
-#[derive(Drop)]
+#[derive(Clone, Copy)]
 pub(crate) enum Verb {
     // Nothing: an empty line, or one that begins with `#`.
     Note,
@@ -62,7 +62,7 @@ pub(crate) enum Verb {
 
 // A line as far as it is read by a form: whether that is all of both, where it is read to, and what stands in it for the last eight
 // signs: a number by its value, octets and a text by where they begin.
-#[derive(Drop)]
+#[derive(Clone, Copy)]
 pub(crate) struct Numbers {
     pub(crate) fit: bool,
     pub(crate) end: usize,
@@ -77,7 +77,7 @@ pub(crate) struct Numbers {
 }
 
 // A line by its verb and its numbers.
-#[derive(Drop)]
+#[derive(Clone, Copy)]
 pub(crate) struct Asked {
     pub(crate) verb: Verb,
     pub(crate) numbers: Numbers,

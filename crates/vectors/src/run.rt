@@ -14,21 +14,21 @@ use relay::Table;
 pub(crate) const LONGEST: usize = ZONE_AT + MOST_WIDTH + trailer::OCTETS;
 
 // The end that packets come out of: the extractor, and the store of what it holds.
-#[derive(Drop)]
+#[derive(Clone, Copy)]
 pub(crate) struct Receiver {
     pub(crate) extractor: Extractor,
     pub(crate) store: [u8; 4096],
 }
 
 // The end that bits come out of.
-#[derive(Drop)]
+#[derive(Clone, Copy)]
 pub(crate) struct BitReceiver {
     pub(crate) reader: Reader,
 }
 
 // Both ends of a channel, a relay's table, and what the lines on it begin with. Packets go in at the multiplexer, which fills the
 // frame, and bits at the writer.
-#[derive(Drop)]
+#[derive(Clone, Copy)]
 pub(crate) struct Ends {
     pub(crate) label: Given,
     pub(crate) settings: Settings,
@@ -41,7 +41,7 @@ pub(crate) struct Ends {
 }
 
 // What the multiplexer answered, and the channel with the frame after it.
-#[derive(Drop)]
+#[derive(Clone, Copy)]
 struct Called {
     reply: Reply,
     ends: Ends,

@@ -1,9 +1,11 @@
 // Words: a field of a word at any place and width, read and written.
+#![tactic(auto)]
+
 ghost use Rattle.std.specs.Prelude.{◌≡◌, ◌/◌, ◌^◌};
 ghost use Rattle.words.specs.Fields.{field, join, placed};
 
 // Where a field stands in a word: how many bits lie below it, and how many it has.
-#[derive(Drop)]
+#[derive(Clone, Copy)]
 pub struct Place {
     pub below: u32,
     pub width: u32,

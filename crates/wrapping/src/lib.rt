@@ -22,7 +22,7 @@ const MOST_PROTOCOL: u8 = 7;
 const MOST_EXTENSION: u8 = 15;
 
 // What comes of wrapping a data unit.
-#[derive(Drop)]
+#[derive(Clone, Copy)]
 pub enum Wrapped {
     // The number of the refusal; no packet is lent, so that the damage of its header is none.
     Refused { refusal: u8, damage: u8 },

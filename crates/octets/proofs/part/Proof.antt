@@ -11,21 +11,21 @@ use Rattle.octets.proofs.part.Statement.{statement}
 use Rattle.octets.proofs.part.Tie as tie
 
 -- the part lies within the slice
-inside : (c : tie.Else1) → let a = c.before.before.before.args in a.start + a.size ≤ length a.s.now
-inside c = leb-true _ _ (sym c.before.within.ensures ∙ not-false _ c.if1.false)
+inside : (c : tie.Else-not-within) → let a = c.args in a.start + a.size ≤ length a.s.now
+inside c = leb-true _ _ (sym c.within.ensures ∙ not-false _ c.if-not-within.false-raw)
 
-returns : tie.Need-returns
+returns : tie.Need-returns-then-not-within
 unfolding part_of
-returns c = rw (sym c.before.before.within.ensures ∙ not-true _ c.before.if1.true) refl
+returns c = rw (sym c.within.ensures ∙ not-true _ c.if-not-within.true-raw) refl
 
-returns-2 : tie.Need-returns-2
+returns-2 : tie.Need-returns
 unfolding part_of
 returns-2 c =
-    let a = c.before.before.before.before.args in
+    let a = c.args in
     rw (le-leb _ _ (inside c.before)) (ap (λ n. take n (drop a.start a.s.now)) (add-sub_cancel_left a.start a.size))
 
-pub part-spec : {M : Type 1} → statement M
-part-spec =
+pub part_spec : {M : Type 1} → statement M
+part_spec =
     tie.close
     (tie.spec
     (λ c κs. search rules)
