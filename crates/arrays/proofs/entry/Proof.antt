@@ -6,8 +6,8 @@ use borrow.Author.Rules.{rules}
 use Rattle.arrays.proofs.entry.Statement.{statement}
 use Rattle.arrays.proofs.entry.Tie as tie
 
-returns-2 : tie.Need-returns-2
-returns-2 c = sym (get_or-eq_default c.before.args.numbers.now 0 c.if1.false)
+returns-2 : tie.Need-returns-else-at-numbers
+returns-2 c = sym (get_or-eq_default c.args.numbers.now 0 c.if-at-numbers.false)
 
 pub entry_spec : {M : Type 1} → statement M
 entry_spec = tie.close (tie.spec (λ c. search rules) (λ c. search rules) (λ c. search rules) returns-2)

@@ -15,5 +15,5 @@ as-bit false = refl
 returns : tie.Need-returns
 returns c = as-bit c.args.yes
 
-pub flag-spec : {M : Type 1} → statement M
-flag-spec = tie.close (tie.spec (λ c. search rules) returns)
+pub flag_spec : {M : Type 1} → statement M
+flag_spec = tie.close (tie.spec (λ c. search rules) returns)

@@ -10,16 +10,14 @@ use borrow.Author.Rules.{rules}
 use Rattle.packets.proofs.apid.Statement.{statement}
 use Rattle.packets.proofs.apid.Tie as tie
 
-cast-result : tie.Need-overflow-cast-result
-cast-result c = omega (arith, field_le c.before.number2.result 0 11)
+cast-result : tie.Need-overflow_cast-result
+cast-result c = omega (arith, field_le c.number2.result 0 11)
 
 returns : tie.Need-returns
 returns c =
-    let at_read = c.before in
-    let at_start = at_read.before.before in
     c.field.ensures
-    ∙ ap (λ (word : ℕ). field word 0 11) (at_read.number2.ensures ∙ number_within 2 0 at_start.args.start.now at_start.requires)
+    ∙ ap (λ (word : ℕ). field word 0 11) (c.number2.ensures ∙ number_within 2 0 c.args.start.now c.requires)
 
-pub apid-spec : {M : Type 1} → statement M
-apid-spec =
+pub apid_spec : {M : Type 1} → statement M
+apid_spec =
     tie.close (tie.spec (λ c κs. search rules) (λ c. search rules) (λ c κs. search rules) cast-result returns)

@@ -7,13 +7,13 @@ use borrow.Author.Rules.{rules}
 use Rattle.packets.proofs.carried.Statement.{statement}
 use Rattle.packets.proofs.carried.Tie as tie
 
-returns : tie.Need-returns
+returns : tie.Need-returns-then-refusal-ne-PACKET
 unfolding carried
-returns c = rw (ne_eqb _ _ c.if1.true) refl
+returns c = rw (ne_eqb _ _ c.if-refusal-ne-PACKET.true) refl
 
-returns-2 : tie.Need-returns-2
+returns-2 : tie.Need-returns
 unfolding carried
-returns-2 c = rw (eq-eqb _ _ c.before.before.if1.false) (c.damage_in.ensures ∙ ap damage_in c.before.read_length.ensures)
+returns-2 c = rw (eq-eqb _ _ c.if-refusal-ne-PACKET.false) (c.damage_in.ensures ∙ ap damage_in c.read_length.ensures)
 
-pub carried-spec : {M : Type 1} → statement M
-carried-spec = tie.close (tie.spec returns (λ c κs. search rules) (λ c κs. search rules) returns-2)
+pub carried_spec : {M : Type 1} → statement M
+carried_spec = tie.close (tie.spec returns (λ c κs. search rules) (λ c κs. search rules) returns-2)

@@ -7,20 +7,20 @@ use borrow.Author.Rules.{rules}
 use Rattle.packets.proofs.damage_in.Statement.{statement}
 use Rattle.packets.proofs.damage_in.Tie as tie
 
-returns : tie.Need-returns
+returns : tie.Need-returns-in-More
 unfolding damage_in seen
-returns c = rw c.enum_told.given.1 refl
+returns c = rw c.in-More.is refl
 
-returns-2 : tie.Need-returns-2
+returns-2 : tie.Need-returns-in-Damaged
 unfolding damage_in seen
-returns-2 c = rw c.before.found.given.1 refl
+returns-2 c = rw c.in-Damaged.is refl
 
-returns-3 : tie.Need-returns-3
+returns-3 : tie.Need-returns-in-Whole
 unfolding damage_in seen
-returns-3 c = rw c.enum-told2.given.1 refl
+returns-3 c = rw c.in-Whole.is refl
 
-pub damage-in-spec : {M : Type 1} → statement M
-damage-in-spec =
+pub damage_in_spec : {M : Type 1} → statement M
+damage_in_spec =
     tie.close
     (tie.spec
     (λ c. search rules)

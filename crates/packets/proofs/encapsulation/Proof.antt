@@ -10,42 +10,36 @@ use borrow.Author.Rules.{rules}
 use Rattle.packets.proofs.encapsulation.Statement.{statement}
 use Rattle.packets.proofs.encapsulation.Tie as tie
 
-returns : tie.Need-returns
+returns : tie.Need-returns-then-protocol-eq-IDLE_PROTOCOL
 unfolding seen
 returns c =
-    let a = c.before.before.before.args in
-    sym (ap (λ (n : ℕ). encapsulation a.limit a.protocol n a.start.now) c.before.if1.true ∙ none_read a.limit a.start.now a.protocol c.if2.true)
+    let a = c.args in
+    sym (ap (λ (n : ℕ). encapsulation a.limit a.protocol n a.start.now) c.if-code-eq0.true ∙ none_read a.limit a.start.now a.protocol c.if-protocol-eq-IDLE_PROTOCOL.true)
 
-returns-2 : tie.Need-returns-2
+returns-2 : tie.Need-returns-then-code-eq0
 unfolding seen
 returns-2 c =
-    let a = c.before.before.before.args in
-    sym (ap (λ (n : ℕ). encapsulation a.limit a.protocol n a.start.now) c.before.if1.true ∙ none_damaged a.limit a.start.now a.protocol c.if2.false)
+    let a = c.args in
+    sym (ap (λ (n : ℕ). encapsulation a.limit a.protocol n a.start.now) c.if-code-eq0.true ∙ none_damaged a.limit a.start.now a.protocol c.if-protocol-eq-IDLE_PROTOCOL.false)
 
-returns-3 : tie.Need-returns-3
+returns-3 : tie.Need-returns-then-start-size
 unfolding seen
 returns-3 c =
-    let at_size = c.before in
-    let at-if1 = at_size.before in
-    let a = at-if1.before.before.args in
-    let few : length a.start.now < header_length a.code = rw (← at_size.header_length.ensures) c.if3.true in
-    sym (half_read a.limit a.start.now a.protocol a.code at-if1.if1.false ∙ counted_short a.limit _ _ _ few)
+    let a = c.args in
+    let few : length a.start.now < header_length a.code = rw (← c.header_length-size.ensures) c.if-start-size.true in
+    sym (half_read a.limit a.start.now a.protocol a.code c.if-code-eq0.false ∙ counted_short a.limit _ _ _ few)
 
-returns-4 : tie.Need-returns-4
+returns-4 : tie.Need-returns
 returns-4 c =
-    let at-total = c.before in
-    let at-if3 = at-total.before.before in
-    let at_size = at-if3.before in
-    let at-if1 = at_size.before in
-    let a = at-if1.before.before.args in
-    let all : header_length a.code ≤ length a.start.now = rw (← at_size.header_length.ensures) at-if3.if3.false in
+    let a = c.args in
+    let all : header_length a.code ≤ length a.start.now = rw (← c.header_length-size.ensures) c.if-start-size.false in
     c.sized.ensures
-    ∙ ap (λ (n : ℕ). sized a.limit n at-total.total_of.result) at_size.header_length.ensures
-    ∙ ap (sized a.limit (header_length a.code)) (at-total.total_of.ensures ∙ at-total.before.stated.ensures)
-    ∙ sym (half_read a.limit a.start.now a.protocol a.code at-if1.if1.false ∙ counted_long a.limit _ _ _ all)
+    ∙ ap (λ (n : ℕ). sized a.limit n c.total_of.result) c.header_length-size.ensures
+    ∙ ap (sized a.limit (header_length a.code)) (c.total_of.ensures ∙ c.stated.ensures)
+    ∙ sym (half_read a.limit a.start.now a.protocol a.code c.if-code-eq0.false ∙ counted_long a.limit _ _ _ all)
 
-pub encapsulation-spec : {M : Type 1} → statement M
-encapsulation-spec =
+pub encapsulation_spec : {M : Type 1} → statement M
+encapsulation_spec =
     tie.close
     (tie.spec
     returns

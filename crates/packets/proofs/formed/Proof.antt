@@ -7,20 +7,20 @@ use borrow.Author.Rules.{rules}
 use Rattle.packets.proofs.formed.Statement.{statement}
 use Rattle.packets.proofs.formed.Tie as tie
 
-returns : tie.Need-returns
+returns : tie.Need-returns-in-More
 unfolding well_formed states seen
-returns c = rw (← c.before.before.read_length.ensures, c.enum_told.given.1) refl
+returns c = rw (← c.read_length.ensures, c.in-More.is) refl
 
-returns-2 : tie.Need-returns-2
+returns-2 : tie.Need-returns-in-Damaged
 unfolding well_formed states seen
-returns-2 c = rw (← c.before.before.read_length.ensures, c.enum-told2.given.1) refl
+returns-2 c = rw (← c.read_length.ensures, c.in-Damaged.is) refl
 
-returns-3 : tie.Need-returns-3
+returns-3 : tie.Need-returns-in-Whole
 unfolding well_formed states seen
-returns-3 c = rw (← c.before.before.before.read_length.ensures, c.before.total.given.1) refl
+returns-3 c = rw (← c.read_length.ensures, c.in-Whole.is) refl
 
-pub formed-spec : {M : Type 1} → statement M
-formed-spec =
+pub formed_spec : {M : Type 1} → statement M
+formed_spec =
     tie.close
     (tie.spec
     (λ c κs. search rules)

@@ -21,12 +21,12 @@ sound More k = refl
 sound (Damaged d) k = absurd (miss (0 ∷ 1 ∷ 3 ∷ []) 2 tt k)
 sound (Whole kind key idle size total) k = refl
 
-returns : tie.Need-returns
-returns c = sound c.before.args.header c.match.keys2
+returns : tie.Need-returns-in_default
+returns c = sound c.args.header c.in_default.in_default-own.keys2
 
-returns-2 : tie.Need-returns-2
+returns-2 : tie.Need-returns
 unfolding answer
-returns-2 c = rw c.before.header.given.1 refl
+returns-2 c = rw c.in-Damaged.is refl
 
-pub header-damage-spec : {M : Type 1} → statement M
-header-damage-spec = tie.close (tie.spec (λ c. search rules) returns returns-2)
+pub header_damage_spec : {M : Type 1} → statement M
+header_damage_spec = tie.close (tie.spec (λ c. search rules) returns returns-2)

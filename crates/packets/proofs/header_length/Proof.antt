@@ -19,14 +19,14 @@ doubled (suc (suc (suc n))) =
     let thrice : min (suc (suc (suc n))) 3 ≡ 3 = omega arith in
     ap (λ (d : ℕ). 2 ^ d) thrice
 
-shl-result : tie.Need-overflow-shl-result
+shl-result : tie.Need-overflow_shl-result
 shl-result c = omega (arith, c.least.ensures)
 
 returns : tie.Need-returns
 returns c =
-    let code = c.before.args.code in
+    let code = c.args.code in
     let often : c.least.result ≡ min code 3 = omega (arith, c.least.ensures) in
     one_up 64 c.least.result (shl-result c) ∙ ap (λ (d : ℕ). 2 ^ d) often ∙ doubled code
 
-pub header-length-spec : {M : Type 1} → statement M
-header-length-spec = tie.close (tie.spec (λ c. search rules) shl-result returns)
+pub header_length_spec : {M : Type 1} → statement M
+header_length_spec = tie.close (tie.spec (λ c. search rules) shl-result returns)

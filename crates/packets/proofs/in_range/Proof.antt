@@ -9,5 +9,5 @@ returns : tie.Need-returns
 unfolding limit_in_range
 returns c = refl
 
-pub in-range-spec : {M : Type 1} → statement M
-in-range-spec = tie.close (tie.spec returns)
+pub in_range_spec : {M : Type 1} → statement M
+in_range_spec = tie.close (tie.spec returns)

@@ -8,12 +8,12 @@ use borrow.Author.Rules.{rules}
 use Rattle.packets.proofs.octet_field.Statement.{statement}
 use Rattle.packets.proofs.octet_field.Tie as tie
 
-cast-result : tie.Need-overflow-cast-result
-cast-result c = omega (arith, field_le c.before.octet.result c.before.before.before.args.at.below c.before.before.before.args.at.width)
+cast-result : tie.Need-overflow_cast-result
+cast-result c = omega (arith, field_le c.octet.result c.args.at.below c.args.at.width)
 
 returns : tie.Need-returns
-returns c = c.field.ensures ∙ ap (read c.before.before.before.args.at) c.before.octet.ensures
+returns c = c.field.ensures ∙ ap (read c.args.at) c.octet.ensures
 
-pub octet-field-spec : {M : Type 1} → statement M
-octet-field-spec =
+pub octet_field_spec : {M : Type 1} → statement M
+octet_field_spec =
     tie.close (tie.spec (λ c κs. search rules) (λ c. search rules) (λ c κs. search rules) cast-result returns)

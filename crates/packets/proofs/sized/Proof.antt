@@ -6,17 +6,17 @@ use Rattle.packets.specs.Header.{seen}
 use Rattle.packets.proofs.sized.Statement.{statement}
 use Rattle.packets.proofs.sized.Tie as tie
 
-returns : tie.Need-returns
+returns : tie.Need-returns-then-total-size
 unfolding sized seen
-returns c = simp (lt-ltb _ _ c.if1.true)
+returns c = simp (lt-ltb _ _ c.if-total-size.true)
 
-returns-2 : tie.Need-returns-2
+returns-2 : tie.Need-returns-then-limit-total
 unfolding sized seen
-returns-2 c = simp (le-ltb _ _ c.before.if1.false, lt-ltb _ _ c.if2.true)
+returns-2 c = simp (le-ltb _ _ c.if-total-size.false, lt-ltb _ _ c.if-limit-total.true)
 
-returns-3 : tie.Need-returns-3
+returns-3 : tie.Need-returns
 unfolding sized seen
-returns-3 c = simp (le-ltb _ _ c.before.if1.false, le-ltb _ _ c.if2.false)
+returns-3 c = simp (le-ltb _ _ c.if-total-size.false, le-ltb _ _ c.if-limit-total.false)
 
-pub sized-spec : {M : Type 1} → statement M
-sized-spec = tie.close (tie.spec returns returns-2 returns-3)
+pub sized_spec : {M : Type 1} → statement M
+sized_spec = tie.close (tie.spec returns returns-2 returns-3)

@@ -12,37 +12,31 @@ use Rattle.packets.proofs.tell.Tie as tie
 
 apid-requires : tie.Need-apid-requires
 apid-requires c κs =
-    let at-version = c.before in
-    let v = sym at-version.version.ensures ∙ c.if1.true in
-    ⊎_elim (λ k. omega arith) (λ k. absurd (omega arith)) at-version.before.before.requires
+    let v = sym c.version.ensures ∙ c.if-version-eq-SPACE_VERSION.true in
+    ⊎_elim (λ k. omega arith) (λ k. absurd (omega arith)) c.requires
 
-returns : tie.Need-returns
+returns : tie.Need-returns-then-version-eq-SPACE_VERSION
 unfolding answer version_of told key_of size_of
 returns c =
-    let at-if1 = c.before.before in
-    let os = at-if1.before.before.before.args.start.now in
-    let v : packet_version (get_or os 0 0) ≡ 0 = sym at-if1.before.version.ensures ∙ at-if1.if1.true in
-    rw (v, c.before.apid.ensures, c.is_idle.ensures) refl
+    let os = c.args.start.now in
+    let v : packet_version (get_or os 0 0) ≡ 0 = sym c.version.ensures ∙ c.if-version-eq-SPACE_VERSION.true in
+    rw (v, c.apid.ensures, c.is_idle.ensures) refl
 
-returns-2 : tie.Need-returns-2
+returns-2 : tie.Need-returns
 unfolding answer version_of told key_of size_of
 returns-2 c =
-    let at_code = c.before in
-    let at-idle = at_code.before in
-    let at-if1 = at-idle.before.before in
-    let at_start = at-if1.before.before.before in
-    let os = at_start.args.start.now in
-    let other : packet_version (get_or os 0 0) ≡ 0 → ⊥ = λ e. at-if1.if1.false (at-if1.before.version.ensures ∙ e) in
-    let v : packet_version (get_or os 0 0) ≡ 7 = ⊎_elim (λ k. absurd (other k.0)) (λ k. k) at_start.requires in
+    let os = c.args.start.now in
+    let other : packet_version (get_or os 0 0) ≡ 0 → ⊥ = λ e. c.if-version-eq-SPACE_VERSION.false (c.version.ensures ∙ e) in
+    let v : packet_version (get_or os 0 0) ≡ 7 = ⊎_elim (λ k. absurd (other k.0)) (λ k. k) c.requires in
     rw (
       v,
-      at-idle.before.protocol.ensures,
-      at-idle.is-idle2.ensures,
-      c.header_length.ensures ∙ ap header_length at_code.length_of_length.ensures,
+      c.protocol.ensures,
+      c.is_idle-2.ensures,
+      c.header_length.ensures ∙ ap header_length c.length_of_length.ensures,
     ) refl
 
-pub tell-spec : {M : Type 1} → statement M
-tell-spec =
+pub tell_spec : {M : Type 1} → statement M
+tell_spec =
     tie.close
     (tie.spec
     (λ c κs. search rules)

@@ -17,8 +17,8 @@ last false = refl
 returns : tie.Need-returns
 unfolding space_in_range
 returns c =
-    let h = c.before.before.before.before.before.before.args.h in
+    let h = c.args.h in
     rw (le-leb h.length 65535 (omega arith), last (leb h.count 16383)) refl
 
-pub in-range-spec : {M : Type 1} → statement M
-in-range-spec = tie.close (tie.spec returns)
+pub in_range_spec : {M : Type 1} → statement M
+in_range_spec = tie.close (tie.spec returns)

@@ -7,11 +7,10 @@ use borrow.Author.Rules.{rules}
 use Rattle.space.proofs.narrow.Statement.{statement}
 use Rattle.space.proofs.narrow.Tie as tie
 
-cast-result : tie.Need-overflow-cast-result
+cast-result : tie.Need-overflow_cast-result
 cast-result c =
-    let at_start = c.before in
-    let a = at_start.args in
-    record { fits = subst (λ (n : ℕ). n < 2 ^ 8) (sym c.field.ensures) (field_within 8 a.word a.at.below a.at.width at_start.requires) }
+    let a = c.args in
+    record { fits = subst (λ (n : ℕ). n < 2 ^ 8) (sym c.field.ensures) (field_within 8 a.word a.at.below a.at.width c.requires) }
 
-pub narrow-spec : {M : Type 1} → statement M
-narrow-spec = tie.close (tie.spec (λ c κs. search rules) cast-result (λ c. search rules))
+pub narrow_spec : {M : Type 1} → statement M
+narrow_spec = tie.close (tie.spec (λ c κs. search rules) cast-result (λ c. search rules))

@@ -24,11 +24,10 @@ refuses : (os : List ℕ) → first (space_read_rows os) ≡ 8 → space_reads (
 unfolding space_reading space_reads
 refuses os e = rw e refl
 
-returns : tie.Need-returns
+returns : tie.Need-returns-then-start-version
 returns c =
-    let at-word = c.before.before in
-    let os : List ℕ = at-word.before.before.args.start.now in
-    refuses os (tested os true at-word.number6.ensures c.before.narrow.ensures c.if1.true)
+    let os : List ℕ = c.args.start.now in
+    refuses os (tested os true c.number6-word.ensures c.narrow-version.ensures c.if-start-version.true)
 
 -- the fields of a word, one by one
 fields : (os : List ℕ) {word version type secondary apid flags count size : ℕ} → first (space_read_rows os) ≡ 0 → word ≡ number_at 6 0 os
@@ -39,22 +38,15 @@ fields : (os : List ℕ) {word version type secondary apid flags count size : �
 unfolding space_reading space_reads space_fields
 fields os e w v t s a f n l = rw e (cc)
 
-returns-2 : tie.Need-returns-2
+returns-2 : tie.Need-returns
 returns-2 c =
-    let at-flags = c.before.before in
-    let at-apid = at-flags.before in
-    let at-secondary = at-apid.before in
-    let at-type = at-secondary.before in
-    let at-if1 = at-type.before in
-    let at-version = at-if1.before in
-    let at-word = at-version.before in
-    let os : List ℕ = at-word.before.before.args.start.now in
-    fields os (tested os false at-word.number6.ensures at-version.narrow.ensures at-if1.if1.false) at-word.number6.ensures
-    at-version.narrow.ensures at-type.narrow2.ensures at-secondary.narrow3.ensures at-apid.wide.ensures
-    at-flags.narrow4.ensures c.before.wide2.ensures c.wide3.ensures
+    let os : List ℕ = c.args.start.now in
+    fields os (tested os false c.number6-word.ensures c.narrow-version.ensures c.if-start-version.false) c.number6-word.ensures
+    c.narrow-version.ensures c.narrow.ensures c.narrow-2.ensures c.wide.ensures
+    c.narrow-3.ensures c.wide-2.ensures c.wide-3.ensures
 
-pub read-space-spec : {M : Type 1} → statement M
-read-space-spec =
+pub read_space_spec : {M : Type 1} → statement M
+read_space_spec =
     tie.close
     (tie.spec
     (λ c κs. search rules)

@@ -11,37 +11,31 @@ use Rattle.space.proofs.word_of.Tie as tie
 returns : tie.Need-returns
 unfolding space_word
 returns c =
-    let at_count = c.before.before in
-    let at-flags = at_count.before.before in
-    let at-apid = at-flags.before.before in
-    let at-secondary = at-apid.before.before in
-    let at-type = at-secondary.before.before in
-    let at-version = at-type.before.before in
-    let h = at-version.before.before.args.h in
-    c.placed7.ensures
-    ∙ ap (write length_at h.length) (at_count.placed6.ensures
-    ∙ ap (write count_at h.count) (at-flags.placed5.ensures
-    ∙ ap (write flags_at h.flags) (at-apid.placed4.ensures
-    ∙ ap (write apid_at h.apid) (at-secondary.placed3.ensures
-    ∙ ap (write secondary_at h.secondary) (at-type.placed2.ensures
-    ∙ ap (write type_at h.packet_type) at-version.placed.ensures)))))
+    let h = c.args.h in
+    c.placed.ensures
+    ∙ ap (write length_at h.length) (c.placed-word-6.ensures
+    ∙ ap (write count_at h.count) (c.placed-word-5.ensures
+    ∙ ap (write flags_at h.flags) (c.placed-word-4.ensures
+    ∙ ap (write apid_at h.apid) (c.placed-word-3.ensures
+    ∙ ap (write secondary_at h.secondary) (c.placed-word-2.ensures
+    ∙ ap (write type_at h.packet_type) c.placed-word.ensures)))))
 
-pub word-of-spec : {M : Type 1} → statement M
-word-of-spec =
+pub word_of_spec : {M : Type 1} → statement M
+word_of_spec =
     tie.close
     (tie.spec
-    (λ c. omega (arith, c.struct_known.given))
+    (λ c. omega (arith, c.struct_known-1.given))
     (λ c κs. search rules)
-    (λ c. omega (arith, c.struct-known2.given))
+    (λ c. omega (arith, c.struct_known-2-1.given))
     (λ c κs. search rules)
-    (λ c. omega (arith, c.struct-known3.given))
+    (λ c. omega (arith, c.struct_known-3-1.given))
     (λ c κs. search rules)
-    (λ c. omega (arith, c.struct-known4.given))
+    (λ c. omega (arith, c.struct_known-4-1.given))
     (λ c κs. search rules)
-    (λ c. omega (arith, c.struct-known5.given))
+    (λ c. omega (arith, c.struct_known-5-1.given))
     (λ c κs. search rules)
-    (λ c. omega (arith, c.struct-known6.given))
+    (λ c. omega (arith, c.struct_known-6-1.given))
     (λ c κs. search rules)
-    (λ c. omega (arith, c.struct-known7.given))
+    (λ c. omega (arith, c.struct_known-7-1.given))
     (λ c κs. search rules)
     returns)

@@ -12,26 +12,24 @@ use borrow.Author.Rules.{rules}
 use Rattle.space.proofs.write_space.Statement.{statement}
 use Rattle.space.proofs.write_space.Tie as tie
 
-returns : tie.Need-returns
+returns : tie.Need-returns-then-not-in_range
 unfolding space_writes space_writing space_rows first
-returns c = rw (← c.before.in_range.ensures, c.if1.true) refl
+returns c = rw (← c.in_range.ensures, c.if-not-in_range.true-raw) refl
 
-returns-2 : tie.Need-returns-2
+returns-2 : tie.Need-returns-then-out-lt-HEADER
 unfolding space_writes space_writing space_rows first
-returns-2 c = rw (← c.before.before.in_range.ensures, c.before.if1.false, lt-ltb _ _ c.if2.true) refl
+returns-2 c = rw (← c.in_range.ensures, c.if-not-in_range.false-raw, lt-ltb _ _ c.if-out-lt-HEADER.true) refl
 
-returns-3 : tie.Need-returns-3
+returns-3 : tie.Need-returns
 unfolding space_writes space_writing space_rows first
 returns-3 c =
-    let at-if2 = c.before.before.before.before.before in
-    let at-if1 = at-if2.before in
-    let a = at-if1.before.before.before.args in
-    rw (← at-if1.before.in_range.ensures, at-if1.if1.false, le-ltb _ _ at-if2.if2.false, c.before.before.put.ensures.left, c.before.before.before.word_of.ensures)
+    let a = c.args in
+    rw (← c.in_range.ensures, c.if-not-in_range.false-raw, le-ltb _ _ c.if-out-lt-HEADER.false, c.put.ensures.left, c.word_of.ensures)
     (ap (λ (l : List ℕ). record { refusal = 0; output = l }) (laid_within a.out.now 0 (octets 6 (space_word a.h))
-    (omega (arith, length-octets 6 (space_word a.h), at-if2.if2.false))))
+    (omega (arith, length-octets 6 (space_word a.h), c.if-out-lt-HEADER.false))))
 
-pub write-space-spec : {M : Type 1} → statement M
-write-space-spec =
+pub write_space_spec : {M : Type 1} → statement M
+write_space_spec =
     tie.close
     (tie.spec
     (λ c κs. search rules)

@@ -12,7 +12,7 @@ use Rattle.trailer.proofs.is_right.Tie as tie
 returns : tie.Need-returns
 returns c =
     ap (λ (r : ℕ). eqb r 0) c.remainder.ensures
-    ∙ sym (right_whole c.before.before.args.frame.now (all_known c.before.before.args.frame.now c.before.shared-slice-known.given))
+    ∙ sym (right_whole c.args.frame.now (all_known c.args.frame.now c.shared_slice_known-1.given))
 
-pub is-right-spec : {M : Type 1} → statement M
-is-right-spec = tie.close (tie.spec (λ c κs. search rules) returns)
+pub is_right_spec : {M : Type 1} → statement M
+is_right_spec = tie.close (tie.spec (λ c κs. search rules) returns)

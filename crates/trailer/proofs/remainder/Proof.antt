@@ -11,43 +11,42 @@ use Rattle.trailer.proofs.Remainders.{remainder_none, remainder_more, remainder_
 use Rattle.trailer.proofs.remainder.Statement.{statement}
 use Rattle.trailer.proofs.remainder.Tie as tie
 
-abbrev invariant-loop : tie.invariant-loop
-invariant-loop octets table register₀ i₀ register i = (i ≤ length octets) × (register ≡ remainder (take i octets))
+abbrev invariant-loop-i : tie.invariant-loop-i
+invariant-loop-i octets table register₀ i₀ register i = (i ≤ length octets) × (register ≡ remainder (take i octets))
 
-abbrev decreases-loop : tie.decreases-loop
-decreases-loop octets table register₀ i₀ register i = length octets - i
+abbrev decreases-loop-i : tie.decreases-loop-i
+decreases-loop-i octets table register₀ i₀ register i = length octets - i
 
-loop-holds : tie.Need-loop-init invariant-loop decreases-loop
+loop-holds : tie.Need-loop-i-init invariant-loop-i decreases-loop-i
 loop-holds c = (omega arith, sym remainder_none)
 
-shared-slice-read-next : tie.Need-shared-slice-read-next invariant-loop decreases-loop
+shared-slice-read-next : tie.Need-bounds-octets-i invariant-loop-i decreases-loop-i
 shared-slice-read-next c = search rules
 
-next-requires : tie.Need-next-requires invariant-loop decreases-loop
+next-requires : tie.Need-next-register-requires invariant-loop-i decreases-loop-i
 unfolding bits modulo brought_down
 next-requires c κs = table_rule _ refl
 
-add-i : tie.Need-overflow-add-i invariant-loop decreases-loop
+add-i : tie.Need-overflow_add-i invariant-loop-i decreases-loop-i
 add-i c = search rules
 
-loop-less : tie.Need-loop-smaller invariant-loop decreases-loop
+loop-less : tie.Need-loop-i-smaller invariant-loop-i decreases-loop-i
 loop-less c = search rules
 
-loop-again : tie.Need-loop-preserved invariant-loop decreases-loop
+loop-again : tie.Need-loop-i-preserved invariant-loop-i decreases-loop-i
 loop-again c =
-    let at = c.before.before.before.before in
-    (omega arith, c.next.ensures ∙ remainder_more at.before.before.args.octets.now at.loop.i _ (omega arith) at.loop.invariant.1)
+    (omega arith, c.next-register.ensures ∙ remainder_more c.args.octets.now c.loop-i.i _ (omega arith) c.loop-i.invariant.1)
 
-returns : tie.Need-returns invariant-loop decreases-loop
+returns : tie.Need-returns invariant-loop-i decreases-loop-i
 returns c =
-    c.before.loop.invariant.1 ∙ remainder_whole c.before.before.before.args.octets.now c.before.loop.i (omega arith)
+    c.loop-i.invariant.1 ∙ remainder_whole c.args.octets.now c.loop-i.i (omega arith)
 
-pub remainder-spec : {M : Type 1} → statement M
-remainder-spec =
+pub remainder_spec : {M : Type 1} → statement M
+remainder_spec =
     tie.close
     (tie.spec
-    invariant-loop
-    decreases-loop
+    invariant-loop-i
+    decreases-loop-i
     loop-holds
     shared-slice-read-next
     next-requires

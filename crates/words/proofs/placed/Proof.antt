@@ -9,10 +9,10 @@ use Rattle.words.proofs.placed.Tie as tie
 returns : tie.Need-returns
 unfolding placed
 returns c =
-    let args = c.before.before.before.before.args in
+    let args = c.args in
     cc (shr-shr args.word args.at.below args.at.width)
 
-pub placed-spec : {M : Type 1} → statement M
-placed-spec =
+pub placed_spec : {M : Type 1} → statement M
+placed_spec =
     tie.close
     (tie.spec (λ c κs. search rules) (λ c κs. search rules) (λ c κs. search rules) (λ c κs. search rules) returns)

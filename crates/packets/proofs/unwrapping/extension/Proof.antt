@@ -7,14 +7,14 @@ use borrow.Author.Rules.{rules}
 use Rattle.packets.proofs.unwrapping.extension.Statement.{statement}
 use Rattle.packets.proofs.unwrapping.extension.Tie as tie
 
-returns : tie.Need-returns
+returns : tie.Need-returns-then-length_of_length-lt2
 unfolding extension_of
-returns c = rw (← c.before.length_of_length.ensures, lt-leb _ _ c.if1.true) refl
+returns c = rw (← c.length_of_length.ensures, lt-leb _ _ c.if-length_of_length-lt2.true) refl
 
-returns-2 : tie.Need-returns-2
+returns-2 : tie.Need-returns
 unfolding extension_of
 returns-2 c =
-    rw (← c.before.before.length_of_length.ensures, le-leb _ _ c.before.if1.false) c.octet-field.ensures
+    rw (← c.length_of_length.ensures, le-leb _ _ c.if-length_of_length-lt2.false) c.octet_field.ensures
 
-pub extension-spec : {M : Type 1} → statement M
-extension-spec = tie.close (tie.spec (λ c κs. search rules) returns (λ c κs. search rules) returns-2)
+pub extension_spec : {M : Type 1} → statement M
+extension_spec = tie.close (tie.spec (λ c κs. search rules) returns (λ c κs. search rules) returns-2)

@@ -6,16 +6,16 @@ use borrow.Author.Rules.{rules}
 use Rattle.packets.proofs.unwrapping.unit_part.Statement.{statement}
 use Rattle.packets.proofs.unwrapping.unit_part.Tie as tie
 
-returns : tie.Need-returns
+returns : tie.Need-returns-in-Refused
 unfolding unit_part
-returns c = rw c.before.enum_told.given.1 refl
+returns c = rw c.in-Refused.is refl
 
-returns-2 : tie.Need-returns-2
+returns-2 : tie.Need-returns-in-Unit
 unfolding unit_part
-returns-2 c = rw c.before.before.u.given.1 c.part.ensures
+returns-2 c = rw c.in-Unit.is c.part.ensures
 
-pub unit-part-spec : {M : Type 1} → statement M
-unit-part-spec =
+pub unit_part_spec : {M : Type 1} → statement M
+unit_part_spec =
     tie.close
     (tie.spec
     (λ c. search rules)

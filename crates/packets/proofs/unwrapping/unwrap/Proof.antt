@@ -24,24 +24,19 @@ module _ (limit : ℕ) (p : List ℕ) {refusal : ℕ} (r : refusal ≡ first (un
   unfolding unwraps
   done h l s q e n = cc (unwrapping_done limit p (cc))
 
-returns : tie.Need-returns
+returns : tie.Need-returns-then-refusal-ne0
 returns c =
-    let at-refusal = c.before.before in
-    let a = at-refusal.before.before.args in
-    refused a.limit a.p.now at-refusal.unwrap-refusal.ensures c.before.if1.true c.carried.ensures
+    let a = c.args in
+    refused a.limit a.p.now c.unwrap_refusal-refusal.ensures c.if-refusal-ne0.true c.carried.ensures
 
-returns-2 : tie.Need-returns-2
+returns-2 : tie.Need-returns
 returns-2 c =
-    let at-protocol = c.before.before in
-    let at-header = at-protocol.before in
-    let at_code = at-header.before in
-    let at-refusal = at_code.before.before in
-    let a = at-refusal.before.before.args in
-    done a.limit a.p.now at-refusal.unwrap-refusal.ensures at_code.before.if1.false at_code.length_of_length.ensures
-    at-header.header_length.ensures at-protocol.protocol.ensures c.before.extension.ensures c.rest.ensures
+    let a = c.args in
+    done a.limit a.p.now c.unwrap_refusal-refusal.ensures c.if-refusal-ne0.false c.length_of_length.ensures
+    c.header_length-start.ensures c.protocol.ensures c.extension.ensures c.rest.ensures
 
-pub unwrap-spec : {M : Type 1} → statement M
-unwrap-spec =
+pub unwrap_spec : {M : Type 1} → statement M
+unwrap_spec =
     tie.close
     (tie.spec
     (λ c κs. search rules)

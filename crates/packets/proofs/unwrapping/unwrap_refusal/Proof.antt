@@ -7,63 +7,53 @@ use borrow.Author.Rules.{rules}
 use Rattle.packets.proofs.unwrapping.unwrap_refusal.Statement.{statement}
 use Rattle.packets.proofs.unwrapping.unwrap_refusal.Tie as tie
 
-returns : tie.Need-returns
+returns : tie.Need-returns-then-not-in_range
 unfolding unwrap_rows first
-returns c = rw (← c.before.in_range.ensures, c.if1.true) refl
+returns c = rw (← c.in_range.ensures, c.if-not-in_range.true-raw) refl
 
-returns-2 : tie.Need-returns-2
+returns-2 : tie.Need-returns-then-formed-version
 unfolding unwrap_rows first
 returns-2 c =
-    let at-formed = c.before.before in
-    let at-if1 = at-formed.before in
     rw (
-      ← at-if1.before.in_range.ensures,
-      at-if1.if1.false,
-      ← at-formed.formed.ensures,
-      ← c.before.version.ensures,
-      c.if2.true,
+      ← c.in_range.ensures,
+      c.if-not-in_range.false-raw,
+      ← c.formed.ensures,
+      ← c.version.ensures,
+      c.if-formed-version.true,
     ) refl
 
-returns-3 : tie.Need-returns-3
+returns-3 : tie.Need-returns-then-extension-protocol
 unfolding unwrap_rows first
 returns-3 c =
-    let at-extension = c.before.before.before in
-    let at-if2 = at-extension.before in
-    let at-formed = at-if2.before.before in
-    let at-if1 = at-formed.before in
     rw (
-      ← at-if1.before.in_range.ensures,
-      at-if1.if1.false,
-      ← at-formed.formed.ensures,
-      ← at-if2.before.version.ensures,
-      at-if2.if2.false,
-      ← at-extension.extension.ensures,
-      ← c.before.before.protocol.ensures,
-      ← c.before.reserved.ensures,
-      c.if3.true,
+      ← c.in_range.ensures,
+      c.if-not-in_range.false-raw,
+      ← c.formed.ensures,
+      ← c.version.ensures,
+      c.if-formed-version.false,
+      ← c.extension.ensures,
+      ← c.protocol.ensures,
+      ← c.reserved.ensures,
+      c.if-extension-protocol.true,
     ) refl
 
-returns-4 : tie.Need-returns-4
+returns-4 : tie.Need-returns
 unfolding unwrap_rows first
 returns-4 c =
-    let at-extension = c.before.before.before in
-    let at-if2 = at-extension.before in
-    let at-formed = at-if2.before.before in
-    let at-if1 = at-formed.before in
     rw (
-      ← at-if1.before.in_range.ensures,
-      at-if1.if1.false,
-      ← at-formed.formed.ensures,
-      ← at-if2.before.version.ensures,
-      at-if2.if2.false,
-      ← at-extension.extension.ensures,
-      ← c.before.before.protocol.ensures,
-      ← c.before.reserved.ensures,
-      c.if3.false,
+      ← c.in_range.ensures,
+      c.if-not-in_range.false-raw,
+      ← c.formed.ensures,
+      ← c.version.ensures,
+      c.if-formed-version.false,
+      ← c.extension.ensures,
+      ← c.protocol.ensures,
+      ← c.reserved.ensures,
+      c.if-extension-protocol.false,
     ) refl
 
-pub unwrap-refusal-spec : {M : Type 1} → statement M
-unwrap-refusal-spec =
+pub unwrap_refusal_spec : {M : Type 1} → statement M
+unwrap_refusal_spec =
     tie.close
     (tie.spec
     (λ c κs. search rules)
