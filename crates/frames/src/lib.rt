@@ -1,4 +1,6 @@
 // Frames: the settings of a channel, a frame's header read and written, and the wheel of its count.
+#![tactic(auto)]
+
 ghost use Rattle.std.specs.Prelude.{◌≡◌, ◌^◌, ◌==◌, nat_lt};
 ghost use Rattle.octets.specs.Basics.{pick, first, over};
 ghost use Rattle.frames.specs.Link.{link_in_range, count_width, next_count, missing};

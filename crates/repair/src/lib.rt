@@ -1,4 +1,6 @@
 // Header error control: the check symbols of a header, and a header read with up to two of its ten symbols repaired.
+#![tactic(auto)]
+
 ghost use Rattle.std.specs.Prelude.{◌≡◌, ◌+◌, ◌*◌, ◌/◌, ◌%◌, ◌^◌, ◌<◌, eqb};
 ghost use Rattle.octets.specs.Basics.{number_at};
 ghost use Rattle.repair.specs.Field.{power, product};

@@ -1,4 +1,6 @@
 // Encapsulation packets written: a data unit wrapped in one, and the idle packet.
+#![tactic(auto)]
+
 ghost use Rattle.std.specs.Prelude.{◌≡◌, length};
 ghost use Rattle.octets.specs.Basics.{first};
 ghost use Rattle.wrapping.specs.Wrap.{length_of_length_for, wrapped_total, wrap_in_range, wrap_rows, wrapping, wraps};

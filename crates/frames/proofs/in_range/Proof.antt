@@ -6,7 +6,7 @@ use Rattle.frames.proofs.in_range.Tie as tie
 
 returns : tie.Need-returns
 unfolding in_range
-returns c = rw c.before.before.link_in_range.ensures
+returns c = rw c.link_in_range.ensures
 
-pub in-range-spec : {M : Type 1} → statement M
-in-range-spec = tie.close (tie.spec (λ c κs. tt) returns)
+pub in_range_spec : {M : Type 1} → statement M
+in_range_spec = tie.close (tie.spec (λ c κs. tt) returns)

@@ -9,5 +9,5 @@ returns : tie.Need-returns
 unfolding link_in_range
 returns c = refl
 
-pub link-in-range-spec : {M : Type 1} → statement M
-link-in-range-spec = tie.close (tie.spec returns)
+pub link_in_range_spec : {M : Type 1} → statement M
+link_in_range_spec = tie.close (tie.spec returns)

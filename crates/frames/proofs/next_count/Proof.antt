@@ -6,13 +6,13 @@ use Rattle.frames.proofs.Wheel.{next_wraps, count_narrow}
 use Rattle.frames.proofs.next_count.Statement.{statement}
 use Rattle.frames.proofs.next_count.Tie as tie
 
-rem-result : tie.Need-nonzero-rem-result
-rem-result c = rw c.wheel_of.ensures (pow_pos (count_width c.before.before.args.l))
+rem-result : tie.Need-nonzero_rem-result
+rem-result c = rw c.wheel_of.ensures (pow_pos (count_width c.args.l))
 
 returns : tie.Need-returns
 returns c =
-    let a = c.before.before.args in
-    rw (c.wheel_of.ensures, c.before.wrapping-add-u32.ensures) (next_wraps 32 (count_width a.l) a.count (omega (arith, count_narrow a.l)))
+    let a = c.args in
+    rw (c.wheel_of.ensures, c.wrapping_add_u32.ensures) (next_wraps 32 (count_width a.l) a.count (omega (arith, count_narrow a.l)))
 
-pub next-count-spec : {M : Type 1} → statement M
-next-count-spec = tie.close (tie.spec (λ c κs. search rules) (λ c κs. search rules) rem-result returns)
+pub next_count_spec : {M : Type 1} → statement M
+next_count_spec = tie.close (tie.spec (λ c κs. search rules) (λ c κs. search rules) rem-result returns)

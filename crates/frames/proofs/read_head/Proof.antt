@@ -9,35 +9,35 @@ use Rattle.frames.proofs.Headings.{heading_ranged, outer_refused}
 use Rattle.frames.proofs.read_head.Statement.{statement}
 use Rattle.frames.proofs.read_head.Tie as tie
 
-returns : tie.Need-returns
+returns : tie.Need-returns-then-not-in_range
 unfolding heading heading_rows heading_of first
-returns c = c.refused.ensures ∙ rw (← c.before.before.in_range.ensures, c.before.if1.true) refl
+returns c = c.refused.ensures ∙ rw (← c.in_range.ensures, c.if-not-in_range.true-raw) refl
 
-module _ (c : tie.After-outer-refusal) where
-  abbrev at-shape : tie.After-shape-of
+module _ (c : tie.After-outer_refusal-refusal) where
+  abbrev at-shape : tie.After-shape_of-h
   at-shape = c.before
 
   abbrev start : tie.Start
   start = at-shape.before.before.before.before
 
   ranged : in_range start.args.s ≡ true
-  ranged = sym at-shape.before.before.in_range.ensures ∙ not-false _ at-shape.before.if1.left
+  ranged = sym at-shape.in_range.ensures ∙ not-false _ at-shape.if-not-in_range.false-raw
 
-returns-2 : tie.Need-returns-2
+returns-2 : tie.Need-returns-then-refusal-ne0
 unfolding heading heading_rows frame_rows
 returns-2 c =
     let at = c.before.before in
-    heading_ranged (packet_shape (start at).args.s) (start at).args.frame.now (ranged at) (at-shape at).shape_of.ensures
-    (c.refused2.ensures ∙ outer_refused (at-shape at).shape_of.result (start at).args.frame.now at.outer-refusal.ensures c.before.if2.true)
+    heading_ranged (packet_shape (start at).args.s) (start at).args.frame.now (ranged at) (at-shape at).shape_of-h.ensures
+    (c.refused-then-refusal-ne0.ensures ∙ outer_refused (at-shape at).shape_of-h.result (start at).args.frame.now at.outer_refusal-refusal.ensures c.if-refusal-ne0.true)
 
-returns-3 : tie.Need-returns-3
+returns-3 : tie.Need-returns
 unfolding heading heading_rows frame_rows
 returns-3 c =
     let at = c.before.before in
-    heading_ranged (packet_shape (start at).args.s) (start at).args.frame.now (ranged at) (at-shape at).shape_of.ensures c.read-headers.ensures
+    heading_ranged (packet_shape (start at).args.s) (start at).args.frame.now (ranged at) (at-shape at).shape_of-h.ensures c.read_headers.ensures
 
-pub read-head-spec : {M : Type 1} → statement M
-read-head-spec =
+pub read_head_spec : {M : Type 1} → statement M
+read_head_spec =
     tie.close
     (tie.spec
     (λ c κs. tt)
@@ -47,5 +47,5 @@ read-head-spec =
     (λ c κs. tt)
     (λ c κs. tt)
     returns-2
-    (λ c κs. sym c.before.outer-refusal.ensures ∙ c.if2.false)
+    (λ c κs. sym c.outer_refusal-refusal.ensures ∙ c.if-refusal-ne0.false)
     returns-3)

@@ -7,13 +7,13 @@ use Rattle.frames.proofs.Wheel.{count_narrow}
 use Rattle.frames.proofs.wheel_of.Statement.{statement}
 use Rattle.frames.proofs.wheel_of.Tie as tie
 
-shl-result : tie.Need-overflow-shl-result
-shl-result c = rw c.count_width.ensures (count_narrow c.before.args.l)
+shl-result : tie.Need-overflow_shl-result
+shl-result c = rw c.count_width.ensures (count_narrow c.args.l)
 
 returns : tie.Need-returns
 returns c =
-    let l = c.before.args.l in
+    let l = c.args.l in
     rw c.count_width.ensures (one_up 32 (count_width l) (count_narrow l))
 
-pub wheel-of-spec : {M : Type 1} → statement M
-wheel-of-spec = tie.close (tie.spec (λ c κs. search rules) shl-result returns)
+pub wheel_of_spec : {M : Type 1} → statement M
+wheel_of_spec = tie.close (tie.spec (λ c κs. search rules) shl-result returns)

@@ -14,47 +14,45 @@ use Rattle.relay.proofs.Turns.{clear_at}
 use Rattle.relay.proofs.clear.Statement.{statement}
 use Rattle.relay.proofs.clear.Tie as tie
 
-abbrev invariant-loop : tie.invariant-loop
-invariant-loop from entries i₀ i = clear (drop from entries) ≡ clear (drop i entries)
+abbrev invariant-loop-i : tie.invariant-loop-i
+invariant-loop-i from entries i₀ i = clear (drop from entries) ≡ clear (drop i entries)
 
-abbrev decreases-loop : tie.decreases-loop
-decreases-loop from entries i₀ i = 32 - i
+abbrev decreases-loop-i : tie.decreases-loop-i
+decreases-loop-i from entries i₀ i = 32 - i
 
 none : {es : List Entry} → es ≡ [] → clear es ≡ true
 unfolding clear
 none q = rw q refl
 
-returns : tie.Need-returns invariant-loop decreases-loop
+returns : tie.Need-returns-then-not-same invariant-loop-i decreases-loop-i
 returns c =
-    let at-loop = c.before.before.before.before in
-    let es = at-loop.before.args.t1 in
-    let i = at-loop.loop.i in
+    let es = c.args.entries in
+    let i = c.loop-i.i in
     let long : length es ≡ 32 = search rules in
-    let other : same (get_or es i no_entry) no_entry ≡ false = sym c.before.same.ensures ∙ not-true _ c.if1.true in
-    sym (at-loop.loop.invariant ∙ clear_at es i (omega arith) ∙ rw other refl)
+    let other : same (get_or es i no_entry) no_entry ≡ false = sym c.same.ensures ∙ not-true _ c.if-not-same.true-raw in
+    sym (c.loop-i.invariant ∙ clear_at es i (omega arith) ∙ rw other refl)
 
-loop-again : tie.Need-loop-preserved invariant-loop decreases-loop
+loop-again : tie.Need-loop-i-preserved invariant-loop-i decreases-loop-i
 loop-again c =
-    let at-loop = c.before.before.before.before in
-    let es = at-loop.before.args.t1 in
-    let i = at-loop.loop.i in
+    let es = c.args.entries in
+    let i = c.loop-i.i in
     let long : length es ≡ 32 = search rules in
-    let none-there : same (get_or es i no_entry) no_entry ≡ true = sym c.before.same.ensures ∙ not-false _ c.if1.false in
-    at-loop.loop.invariant ∙ clear_at es i (omega arith) ∙ rw none-there refl
+    let none-there : same (get_or es i no_entry) no_entry ≡ true = sym c.same.ensures ∙ not-false _ c.if-not-same.false-raw in
+    c.loop-i.invariant ∙ clear_at es i (omega arith) ∙ rw none-there refl
 
-returns-2 : tie.Need-returns-2 invariant-loop decreases-loop
+returns-2 : tie.Need-returns invariant-loop-i decreases-loop-i
 returns-2 c =
-    let es = c.before.before.args.t1 in
+    let es = c.args.entries in
     let long : length es ≡ 32 = search rules in
-    let past : length es ≤ c.before.loop.i = omega arith in
-    sym (c.before.loop.invariant ∙ none (drop_of_length-le es past))
+    let past : length es ≤ c.loop-i.i = omega arith in
+    sym (c.loop-i.invariant ∙ none (drop_of_length-le es past))
 
 pub clear_spec : {M : Type 1} → statement M
 clear_spec =
     tie.close
     (tie.spec
-    invariant-loop
-    decreases-loop
+    invariant-loop-i
+    decreases-loop-i
     (λ c. refl)
     (λ c. record { fits = omega arith })
     (λ c. omega arith)

@@ -8,7 +8,7 @@ use Rattle.relay.proofs.is_table.Tie as tie
 
 returns : tie.Need-returns
 unfolding is_table
-returns c = rw (c.before.load-refusal.ensures, c.clear.ensures) refl
+returns c = rw (c.load_refusal.ensures, c.clear.ensures) refl
 
-pub is-table-spec : {M : Type 1} → statement M
-is-table-spec = tie.close (tie.spec (λ c κs. search rules) (λ c κs. search rules) returns)
+pub is_table_spec : {M : Type 1} → statement M
+is_table_spec = tie.close (tie.spec (λ c κs. search rules) (λ c κs. search rules) returns)

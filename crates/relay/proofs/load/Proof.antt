@@ -12,21 +12,21 @@ use Rattle.relay.proofs.Tables.{taken, not_taken, not_refused, table_made}
 use Rattle.relay.proofs.load.Statement.{statement}
 use Rattle.relay.proofs.load.Tie as tie
 
-returns : tie.Need-returns
+returns : tie.Need-returns-then-refusal-ne0
 returns c =
-    let a = c.before.before.args in
-    let refusal = c.before.load-refusal.ensures in
-    rw refusal (sym (not_taken a.old a.count a.entries (λ e. c.if1.true (refusal ∙ e))))
+    let a = c.args in
+    let refusal = c.load_refusal-refusal.ensures in
+    rw refusal (sym (not_taken a.old a.count a.entries (λ e. c.if-refusal-ne0.true (refusal ∙ e))))
 
 cleared-requires : tie.Need-cleared-requires
 cleared-requires c κs =
-    let a = c.before.before.args in
-    (not_refused a.count _ (sym c.before.load-refusal.ensures ∙ c.if1.false)).0
+    let a = c.args in
+    (not_refused a.count _ (sym c.load_refusal-refusal.ensures ∙ c.if-refusal-ne0.false)).0
 
-returns-2 : tie.Need-returns-2
+returns-2 : tie.Need-returns
 returns-2 c =
-    let a = c.before.before.before.args in
-    let none = sym c.before.before.load-refusal.ensures ∙ c.before.if1.false in
+    let a = c.args in
+    let none = sym c.load_refusal-refusal.ensures ∙ c.if-refusal-ne0.false in
     let few : a.count ≤ 32 = (not_refused a.count _ none).0 in
     let long : length a.entries ≡ 32 = search rules in
     ap (λ (es : List Entry). record { refusal = 0; table = record { count = a.count; entries = es } }) c.cleared.ensures

@@ -9,20 +9,20 @@ use Rattle.relay.proofs.Tables.{loadable}
 use Rattle.relay.proofs.load_refusal.Statement.{statement}
 use Rattle.relay.proofs.load_refusal.Tie as tie
 
-returns : tie.Need-returns
+returns : tie.Need-returns-then-count-gt-MOST_ENTRIES
 unfolding load_rows first
-returns c = rw (lt-ltb 32 c.before.args.count c.if1.true) refl
+returns c = rw (lt-ltb 32 c.args.count c.if-count-gt-MOST_ENTRIES.true) refl
 
-returns-2 : tie.Need-returns-2
+returns-2 : tie.Need-returns-then-unfit
 unfolding load_rows first
 returns-2 c =
-    let found = sym c.before.unfit.ensures ∙ c.if2.true in
-    rw (le-ltb 32 c.before.before.before.args.count c.before.before.if1.false, found) refl
+    let found = sym c.unfit.ensures ∙ c.if-unfit.true in
+    rw (le-ltb 32 c.args.count c.if-count-gt-MOST_ENTRIES.false, found) refl
 
-returns-3 : tie.Need-returns-3
+returns-3 : tie.Need-returns
 returns-3 c =
-    let none = sym c.before.unfit.ensures ∙ c.if2.false in
-    sym (loadable c.before.before.before.args.count _ c.before.before.if1.false none)
+    let none = sym c.unfit.ensures ∙ c.if-unfit.false in
+    sym (loadable c.args.count _ c.if-count-gt-MOST_ENTRIES.false none)
 
-pub load-refusal-spec : {M : Type 1} → statement M
-load-refusal-spec = tie.close (tie.spec returns (λ c κs. search rules) returns-2 returns-3)
+pub load_refusal_spec : {M : Type 1} → statement M
+load_refusal_spec = tie.close (tie.spec returns (λ c κs. search rules) returns-2 returns-3)

@@ -9,36 +9,30 @@ use Rattle.relay.proofs.Headers.{in_range, turned_away, no_table}
 use Rattle.relay.proofs.route.Statement.{statement}
 use Rattle.relay.proofs.route.Tie as tie
 
-returns : tie.Need-returns
+returns : tie.Need-returns-in-Refused
 unfolding routes
 returns c =
-    let at_read = c.before.before.before in
-    let a = at_read.before.before.before.args in
-    turned_away a.limit a.t a.packet.now a.out.now (ap answer (sym c.before.header.given.1) ∙ at_read.read_header.ensures)
+    let a = c.args in
+    turned_away a.limit a.t a.packet.now a.out.now (ap answer (sym c.in-Refused.is) ∙ c.read_header-header.ensures)
 
-returns-2 : tie.Need-returns-2
+returns-2 : tie.Need-returns-then-not-is_table
 unfolding routes
 returns-2 c =
-    let at-match = c.before.before in
-    let at_read = at-match.before in
-    let a = at_read.before.before.before.args in
-    let l = in_range a.limit a.packet.now at_read.read_header.result at-match.match.keys2 at_read.read_header.ensures in
-    no_table a.limit a.t a.packet.now a.out.now l (sym c.before.is_table.ensures ∙ not-true _ c.if1.true)
+    let a = c.args in
+    let l = in_range a.limit a.packet.now c.read_header-header.result c.in_default.in_default-own.keys2 c.read_header-header.ensures in
+    no_table a.limit a.t a.packet.now a.out.now l (sym c.is_table.ensures ∙ not-true _ c.if-not-is_table.true-raw)
 
-by-header-requires : tie.Need-by-header-requires
-by-header-requires c κs = sym c.before.before.is_table.ensures ∙ not-false _ c.before.if1.false
+by-header-requires : tie.Need-by_header-requires
+by-header-requires c κs = sym c.is_table.ensures ∙ not-false _ c.if-not-is_table.false-raw
 
-returns-3 : tie.Need-returns-3
+returns-3 : tie.Need-returns
 returns-3 c =
-    let at_call = c.before.before in
-    let at-match = at_call.before.before.before.before in
-    let at_read = at-match.before in
-    let a = at_read.before.before.before.args in
-    let l = in_range a.limit a.packet.now at_read.read_header.result at-match.match.keys2 at_read.read_header.ensures in
-    at_call.by-header.ensures a.limit a.packet.now l refl at_read.read_header.ensures
+    let a = c.args in
+    let l = in_range a.limit a.packet.now c.read_header-header.result c.in_default.in_default-own.keys2 c.read_header-header.ensures in
+    c.by_header.ensures a.limit a.packet.now l refl c.read_header-header.ensures
 
-pub route-spec : {M : Type 1} → statement M
-route-spec =
+pub route_spec : {M : Type 1} → statement M
+route_spec =
     tie.close
     (tie.spec
     (λ c κs. search rules)

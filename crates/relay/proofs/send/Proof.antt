@@ -9,35 +9,29 @@ use Rattle.relay.proofs.Ways.{laid_none, sent_nowhere, sent}
 use Rattle.relay.proofs.send.Statement.{statement}
 use Rattle.relay.proofs.send.Tie as tie
 
-returns : tie.Need-returns
+returns : tie.Need-returns-then-refusal-ne0
 unfolding routes
 returns c =
-    let at-lay = c.before.before.before in
-    let at_start = at-lay.before.before.before.before.before in
-    let a = at_start.args in
+    let a = c.args in
     let long : length a.d.list ≡ 32 = search rules in
-    laid_none a.d.list a.out.now a.d.count (omega (arith, at_start.requires)) at-lay.lay.ensures c.if1.true
+    laid_none a.d.list a.out.now a.d.count (omega (arith, c.requires)) c.lay-refusal.ensures c.if-refusal-ne0.true
 
-returns-2 : tie.Need-returns-2
+returns-2 : tie.Need-returns-then-count-eq0
 unfolding routes
 returns-2 c =
-    let at-lay = c.before.before.before.before in
-    let at_start = at-lay.before.before.before.before.before in
-    let a = at_start.args in
+    let a = c.args in
     let long : length a.d.list ≡ 32 = search rules in
-    sent_nowhere a.d.list a.out.now a.d.count (omega (arith, at_start.requires)) at-lay.lay.ensures c.before.if1.false c.if2.true
+    sent_nowhere a.d.list a.out.now a.d.count (omega (arith, c.requires)) c.lay-refusal.ensures c.if-refusal-ne0.false c.if-count-eq0.true
 
-returns-3 : tie.Need-returns-3
+returns-3 : tie.Need-returns
 unfolding routes
 returns-3 c =
-    let at-lay = c.before.before.before.before in
-    let at_start = at-lay.before.before.before.before.before in
-    let a = at_start.args in
+    let a = c.args in
     let long : length a.d.list ≡ 32 = search rules in
-    sent a.d.list a.out.now a.d.count (omega (arith, at_start.requires)) at-lay.lay.ensures c.before.if1.false c.if2.false
+    sent a.d.list a.out.now a.d.count (omega (arith, c.requires)) c.lay-refusal.ensures c.if-refusal-ne0.false c.if-count-eq0.false
 
-pub send-spec : {M : Type 1} → statement M
-send-spec =
+pub send_spec : {M : Type 1} → statement M
+send_spec =
     tie.close
     (tie.spec
     (λ c. search rules)

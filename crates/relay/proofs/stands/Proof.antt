@@ -14,61 +14,59 @@ use Rattle.relay.proofs.Turns.{slice_past, stands_at}
 use Rattle.relay.proofs.stands.Statement.{statement}
 use Rattle.relay.proofs.stands.Tie as tie
 
-abbrev invariant-loop : tie.invariant-loop
-invariant-loop e from to entries i₀ i = stands e (slice from to entries) ≡ stands e (slice i to entries)
+abbrev invariant-loop-i : tie.invariant-loop-i
+invariant-loop-i e from to entries i₀ i = stands e (slice from to entries) ≡ stands e (slice i to entries)
 
 none : (e : Entry) {es : List Entry} → es ≡ [] → stands e es ≡ false
 unfolding stands
 none e q = rw q refl
 
-abbrev decreases-loop : tie.decreases-loop
-decreases-loop e from to entries i₀ i = to - i
+abbrev decreases-loop-i : tie.decreases-loop-i
+decreases-loop-i e from to entries i₀ i = to - i
 
-loop-holds : tie.Need-loop-init invariant-loop decreases-loop
+loop-holds : tie.Need-loop-i-init invariant-loop-i decreases-loop-i
 loop-holds c = refl
 
-mul-same : tie.Need-overflow-mul-same invariant-loop decreases-loop
-mul-same c = record { fits = omega (arith, c.before.before.requires) }
+mul-same : tie.Need-offset_bounds-entries-i invariant-loop-i decreases-loop-i
+mul-same c = record { fits = omega (arith, c.requires) }
 
-array-copy-out-same : tie.Need-array-copy-out-same invariant-loop decreases-loop
+array-copy-out-same : tie.Need-bounds-entries-i invariant-loop-i decreases-loop-i
 array-copy-out-same c = omega arith
 
-same-requires : tie.Need-same-requires invariant-loop decreases-loop
+same-requires : tie.Need-same-requires invariant-loop-i decreases-loop-i
 same-requires c κs = search rules
 
-returns : tie.Need-returns invariant-loop decreases-loop
+returns : tie.Need-returns-then-same invariant-loop-i decreases-loop-i
 returns c =
-    let at-loop = c.before.before.before.before in
-    let a = at-loop.before.args in
-    let long : length a.t2 ≡ 32 = search rules in
-    let found : same a.e (get_or a.t2 at-loop.loop.i no_entry) ≡ true = sym c.before.same.ensures ∙ c.if1.true in
-    sym (at-loop.loop.invariant ∙ stands_at a.t2 at-loop.loop.i a.to (omega arith) (omega arith) a.e ∙ rw found refl)
+    let a = c.args in
+    let long : length a.entries ≡ 32 = search rules in
+    let found : same a.e (get_or a.entries c.loop-i.i no_entry) ≡ true = sym c.same.ensures ∙ c.if-same.true in
+    sym (c.loop-i.invariant ∙ stands_at a.entries c.loop-i.i a.to (omega arith) (omega arith) a.e ∙ rw found refl)
 
-add-i : tie.Need-overflow-add-i invariant-loop decreases-loop
+add-i : tie.Need-overflow_add-i invariant-loop-i decreases-loop-i
 add-i c = omega arith
 
-loop-less : tie.Need-loop-smaller invariant-loop decreases-loop
+loop-less : tie.Need-loop-i-smaller invariant-loop-i decreases-loop-i
 loop-less c = omega arith
 
-loop-again : tie.Need-loop-preserved invariant-loop decreases-loop
+loop-again : tie.Need-loop-i-preserved invariant-loop-i decreases-loop-i
 loop-again c =
-    let at-loop = c.before.before.before.before in
-    let a = at-loop.before.args in
-    let long : length a.t2 ≡ 32 = search rules in
-    let other : same a.e (get_or a.t2 at-loop.loop.i no_entry) ≡ false = sym c.before.same.ensures ∙ c.if1.false in
-    at-loop.loop.invariant ∙ stands_at a.t2 at-loop.loop.i a.to (omega arith) (omega arith) a.e ∙ rw other refl
+    let a = c.args in
+    let long : length a.entries ≡ 32 = search rules in
+    let other : same a.e (get_or a.entries c.loop-i.i no_entry) ≡ false = sym c.same.ensures ∙ c.if-same.false in
+    c.loop-i.invariant ∙ stands_at a.entries c.loop-i.i a.to (omega arith) (omega arith) a.e ∙ rw other refl
 
-returns-2 : tie.Need-returns-2 invariant-loop decreases-loop
+returns-2 : tie.Need-returns invariant-loop-i decreases-loop-i
 returns-2 c =
-    let a = c.before.before.args in
-    sym (c.before.loop.invariant ∙ none a.e (slice_past a.t2 c.before.loop.i a.to (omega arith)))
+    let a = c.args in
+    sym (c.loop-i.invariant ∙ none a.e (slice_past a.entries c.loop-i.i a.to (omega arith)))
 
-pub stands-spec : {M : Type 1} → statement M
-stands-spec =
+pub stands_spec : {M : Type 1} → statement M
+stands_spec =
     tie.close
     (tie.spec
-    invariant-loop
-    decreases-loop
+    invariant-loop-i
+    decreases-loop-i
     loop-holds
     mul-same
     array-copy-out-same

@@ -16,56 +16,54 @@ use Rattle.relay.proofs.Turns.{slice_past, unfit_at}
 use Rattle.relay.proofs.unfit.Statement.{statement}
 use Rattle.relay.proofs.unfit.Tie as tie
 
-abbrev invariant-loop : tie.invariant-loop
-invariant-loop count entries i₀ i = unfit (take count entries) ≡ unfit (slice i count entries)
+abbrev invariant-loop-i : tie.invariant-loop-i
+invariant-loop-i count entries i₀ i = unfit (take count entries) ≡ unfit (slice i count entries)
 
-abbrev decreases-loop : tie.decreases-loop
-decreases-loop count entries i₀ i = count - i
+abbrev decreases-loop-i : tie.decreases-loop-i
+decreases-loop-i count entries i₀ i = count - i
 
 none : {es : List Entry} → es ≡ [] → unfit es ≡ false
 unfolding unfit above twice
 none q = rw q refl
 
-stands-requires : tie.Need-stands-requires invariant-loop decreases-loop
-stands-requires c κs = c.before.before.before.before.requires
+stands-requires : tie.Need-stands-requires invariant-loop-i decreases-loop-i
+stands-requires c κs = c.requires
 
-returns : tie.Need-returns invariant-loop decreases-loop
+returns : tie.Need-returns-then-e-stands invariant-loop-i decreases-loop-i
 returns c =
-    let at-loop = c.before.before.before.before.before in
-    let es = at-loop.before.args.t1 in
-    let count = at-loop.before.args.count in
-    let i = at-loop.loop.i in
+    let es = c.args.entries in
+    let count = c.args.count in
+    let i = c.loop-i.i in
     let long : length es ≡ 32 = search rules in
     let here : or (ltb 2046 (get_or es i no_entry).apid) (stands (get_or es i no_entry) (slice (i + 1) count es)) ≡ true =
-    ap (or (ltb 2046 (get_or es i no_entry).apid)) (sym c.before.stands.ensures) ∙ c.if1.true in
-    sym (at-loop.loop.invariant ∙ unfit_at es i count (omega arith) (omega (arith, at-loop.before.requires)) ∙ rw here refl)
+    ap (or (ltb 2046 (get_or es i no_entry).apid)) (sym c.stands.ensures) ∙ c.if-e-stands.true in
+    sym (c.loop-i.invariant ∙ unfit_at es i count (omega arith) (omega (arith, c.requires)) ∙ rw here refl)
 
-loop-again : tie.Need-loop-preserved invariant-loop decreases-loop
+loop-again : tie.Need-loop-i-preserved invariant-loop-i decreases-loop-i
 loop-again c =
-    let at-loop = c.before.before.before.before.before in
-    let es = at-loop.before.args.t1 in
-    let count = at-loop.before.args.count in
-    let i = at-loop.loop.i in
+    let es = c.args.entries in
+    let count = c.args.count in
+    let i = c.loop-i.i in
     let long : length es ≡ 32 = search rules in
     let here : or (ltb 2046 (get_or es i no_entry).apid) (stands (get_or es i no_entry) (slice (i + 1) count es)) ≡ false =
-    ap (or (ltb 2046 (get_or es i no_entry).apid)) (sym c.before.stands.ensures) ∙ c.if1.false in
-    at-loop.loop.invariant ∙ unfit_at es i count (omega arith) (omega (arith, at-loop.before.requires)) ∙ rw here refl
+    ap (or (ltb 2046 (get_or es i no_entry).apid)) (sym c.stands.ensures) ∙ c.if-e-stands.false in
+    c.loop-i.invariant ∙ unfit_at es i count (omega arith) (omega (arith, c.requires)) ∙ rw here refl
 
-returns-2 : tie.Need-returns-2 invariant-loop decreases-loop
+returns-2 : tie.Need-returns invariant-loop-i decreases-loop-i
 returns-2 c =
-    let a = c.before.before.args in
-    sym (c.before.loop.invariant ∙ none (slice_past a.t1 c.before.loop.i a.count (omega arith)))
+    let a = c.args in
+    sym (c.loop-i.invariant ∙ none (slice_past a.entries c.loop-i.i a.count (omega arith)))
 
-pub unfit-spec : {M : Type 1} → statement M
-unfit-spec =
+pub unfit_spec : {M : Type 1} → statement M
+unfit_spec =
     tie.close
     (tie.spec
-    invariant-loop
-    decreases-loop
+    invariant-loop-i
+    decreases-loop-i
     (λ c. refl)
-    (λ c. record { fits = omega (arith, c.before.before.requires) })
-    (λ c. omega (arith, c.before.before.requires))
-    (λ c. omega (arith, c.before.before.before.before.requires))
+    (λ c. record { fits = omega (arith, c.requires) })
+    (λ c. omega (arith, c.requires))
+    (λ c. omega (arith, c.requires))
     stands-requires
     returns
     (λ c. omega arith)

@@ -13,21 +13,21 @@ use Rattle.wrapping.proofs.length_of_length_for.Tie as tie
 two : (n : ℕ) → leb (n + 2) 255 ≡ leb n 253
 two n = leb_iff (n + 2) 255 n 253 (λ h. omega arith) (λ h. omega arith)
 
-returns : tie.Need-returns
+returns : tie.Need-returns-then-n-protocol
 unfolding length_of_length_for
-returns c = rw (two c.before.args.n, c.if1.true) refl
+returns c = rw (two c.args.n, c.if-n-protocol.true) refl
 
-returns-2 : tie.Need-returns-2
+returns-2 : tie.Need-returns-then-n-le-MOST_BEHIND_FOUR
 unfolding length_of_length_for
 returns-2 c =
-    let n : ℕ = c.before.before.args.n in
-    rw (two n, c.before.if1.false, le-leb (n + 4) 65535 (omega arith)) refl
+    let n : ℕ = c.args.n in
+    rw (two n, c.if-n-protocol.false, le-leb (n + 4) 65535 (omega arith)) refl
 
-returns-3 : tie.Need-returns-3
+returns-3 : tie.Need-returns-else-n-le-MOST_BEHIND_FOUR
 unfolding length_of_length_for
 returns-3 c =
-    let n : ℕ = c.before.before.args.n in
-    rw (two n, c.before.if1.false, lt-leb (n + 4) 65535 (omega arith)) refl
+    let n : ℕ = c.args.n in
+    rw (two n, c.if-n-protocol.false, lt-leb (n + 4) 65535 (omega arith)) refl
 
-pub length-of-length-for-spec : {M : Type 1} → statement M
-length-of-length-for-spec = tie.close (tie.spec returns returns-2 returns-3)
+pub length_of_length_for_spec : {M : Type 1} → statement M
+length_of_length_for_spec = tie.close (tie.spec returns returns-2 returns-3)

@@ -36,35 +36,24 @@ module _ (limit protocol extension : ℕ) (unit output : List ℕ) {total refusa
   done h l s b w =
       cc (wrapping_done limit protocol extension unit output (cc), unit_written protocol extension unit output (omega (arith, roomy h)))
 
-returns : tie.Need-returns
+returns : tie.Need-returns-then-refusal-ne0
 returns c =
-    let at-total = c.before.before in
-    let a = at-total.before.before.before.args in
+    let a = c.args in
     refused a.limit a.protocol a.extension a.unit.now a.out.now
-    at-total.wrapped_total.ensures c.before.wrap-refusal.ensures c.if1.true
+    c.wrapped_total-total.ensures c.wrap_refusal-refusal.ensures c.if-refusal-ne0.true
 
-write-front-requires : tie.Need-write-front-requires
+write-front-requires : tie.Need-write_front-requires
 write-front-requires c κs =
-    let at-if1 = c.before.before in
-    let at-refusal = at-if1.before in
-    let at-total = at-refusal.before in
-    let a = at-total.before.before.before.args in
+    let a = c.args in
     header-fits a.limit a.protocol a.extension a.unit.now a.out.now
-    at-total.wrapped_total.ensures at-refusal.wrap-refusal.ensures at-if1.if1.false c.before.length_of_length_for.ensures
+    c.wrapped_total-total.ensures c.wrap_refusal-refusal.ensures c.if-refusal-ne0.false c.length_of_length_for-code.ensures
 
-returns-2 : tie.Need-returns-2
+returns-2 : tie.Need-returns
 returns-2 c =
-    let at-lay = c.before.before in
-    let at-header = at-lay.before in
-    let at_front = at-header.before.before.before.before in
-    let at_code = at_front.before.before in
-    let at-if1 = at_code.before in
-    let at-refusal = at-if1.before in
-    let at-total = at-refusal.before in
-    let a = at-total.before.before.before.args in
+    let a = c.args in
     done a.limit a.protocol a.extension a.unit.now a.out.now
-    at-total.wrapped_total.ensures at-refusal.wrap-refusal.ensures at-if1.if1.false
-    at_code.length_of_length_for.ensures at-header.header_length.ensures at_front.write-front.ensures at-lay.lay.ensures.left
+    c.wrapped_total-total.ensures c.wrap_refusal-refusal.ensures c.if-refusal-ne0.false
+    c.length_of_length_for-code.ensures c.header_length.ensures c.write_front.ensures c.lay.ensures.left
 
 pub wrap_spec : {M : Type 1} → statement M
 wrap_spec =

@@ -10,5 +10,5 @@ returns : tie.Need-returns
 unfolding wrap_in_range limit_in_range
 returns c = refl
 
-pub wrap-in-range-spec : {M : Type 1} → statement M
-wrap-in-range-spec = tie.close (tie.spec returns)
+pub wrap_in_range_spec : {M : Type 1} → statement M
+wrap_in_range_spec = tie.close (tie.spec returns)

@@ -11,14 +11,14 @@ use borrow.Author.Rules.{rules}
 use Rattle.wrapping.proofs.wrapped_total.Statement.{statement}
 use Rattle.wrapping.proofs.wrapped_total.Tie as tie
 
-add-result : tie.Need-overflow-add-result
-add-result c = omega (arith, header_most c.before.length_of_length_for.result, c.before.before.before.well_formed)
+add-result : tie.Need-overflow_add-result
+add-result c = omega (arith, header_most c.length_of_length_for.result, c.well_formed)
 
 returns : tie.Need-returns
 unfolding wrapped_total
 returns c =
-    ap (λ (n : ℕ). length c.before.before.before.args.unit.now + n) (c.header_length.ensures ∙ ap header_length c.before.length_of_length_for.ensures)
+    ap (λ (n : ℕ). length c.args.unit.now + n) (c.header_length.ensures ∙ ap header_length c.length_of_length_for.ensures)
 
-pub wrapped-total-spec : {M : Type 1} → statement M
-wrapped-total-spec =
+pub wrapped_total_spec : {M : Type 1} → statement M
+wrapped_total_spec =
     tie.close (tie.spec (λ c κs. search rules) (λ c κs. search rules) add-result returns)

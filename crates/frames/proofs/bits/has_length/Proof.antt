@@ -8,5 +8,5 @@ returns : tie.Need-returns
 unfolding bit_frame_length
 returns c = c.has_length.ensures
 
-pub has-length-spec : {M : Type 1} → statement M
-has-length-spec = tie.close (tie.spec (λ c κs. tt) returns)
+pub has_length_spec : {M : Type 1} → statement M
+has_length_spec = tie.close (tie.spec (λ c κs. tt) returns)

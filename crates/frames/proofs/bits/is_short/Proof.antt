@@ -8,5 +8,5 @@ returns : tie.Need-returns
 unfolding bit_frame_length
 returns c = c.is_short.ensures
 
-pub is-short-spec : {M : Type 1} → statement M
-is-short-spec = tie.close (tie.spec (λ c κs. tt) returns)
+pub is_short_spec : {M : Type 1} → statement M
+is_short_spec = tie.close (tie.spec (λ c κs. tt) returns)

@@ -5,8 +5,8 @@ use Rattle.trailer.proofs.Setting.{extra_small}
 use Rattle.frames.proofs.shape.around.Statement.{statement}
 use Rattle.frames.proofs.shape.around.Tie as tie
 
-add-result : tie.Need-overflow-add-result
-add-result c = record { fits = omega (arith, c.extra.ensures, extra_small c.before.args.l.trailed) }
+add-result : tie.Need-overflow_add-result
+add-result c = record { fits = omega (arith, c.extra.ensures, extra_small c.args.l.trailed) }
 
-pub around-spec : {M : Type 1} → statement M
-around-spec = tie.close (tie.spec (λ c κs. tt) add-result (λ c. search rules))
+pub around_spec : {M : Type 1} → statement M
+around_spec = tie.close (tie.spec (λ c κs. tt) add-result (λ c. search rules))

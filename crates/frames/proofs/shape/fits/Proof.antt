@@ -6,9 +6,8 @@ use Rattle.frames.proofs.shape.fits.Tie as tie
 
 returns : tie.Need-returns
 returns c =
-    let at_pointer = c.before in
-    let a = at_pointer.before.args in
-    rw (c.field.ensures, at_pointer.pointer_at.ensures) (foot_fits a.number a.h.width)
+    let a = c.args in
+    rw (c.field.ensures, c.pointer_at.ensures) (foot_fits a.number a.h.width)
 
-pub fits-spec : {M : Type 1} → statement M
-fits-spec = tie.close (tie.spec (λ c κs. tt) (λ c κs. tt) returns)
+pub fits_spec : {M : Type 1} → statement M
+fits_spec = tie.close (tie.spec (λ c κs. tt) (λ c κs. tt) returns)

@@ -7,19 +7,17 @@ use Rattle.frames.specs.Link.{around}
 use Rattle.frames.proofs.shape.has_length.Statement.{statement}
 use Rattle.frames.proofs.shape.has_length.Tie as tie
 
-returns : tie.Need-returns
+returns : tie.Need-returns-then-around-len
 returns c =
-    let at = c.before in
-    let a = at.before.args in
-    let e = at.around.ensures in
-    eqb_iff (a.len - at.around.result) a.size a.len (a.size + around a.l) (λ h. omega arith) (λ h. omega arith)
+    let a = c.args in
+    let e = c.around-around.ensures in
+    eqb_iff (a.len - c.around-around.result) a.size a.len (a.size + around a.l) (λ h. omega arith) (λ h. omega arith)
 
-returns-2 : tie.Need-returns-2
+returns-2 : tie.Need-returns-else-around-len
 returns-2 c =
-    let at = c.before in
-    let a = at.before.args in
-    let e = at.around.ensures in
-    lt-leb at.around.result a.len c.if1.false ∙ sym (ne_eqb a.len (a.size + around a.l) (λ h. omega arith))
+    let a = c.args in
+    let e = c.around-around.ensures in
+    lt-leb c.around-around.result a.len c.if-around-len.false ∙ sym (ne_eqb a.len (a.size + around a.l) (λ h. omega arith))
 
-pub has-length-spec : {M : Type 1} → statement M
-has-length-spec = tie.close (tie.spec (λ c κs. tt) returns returns-2)
+pub has_length_spec : {M : Type 1} → statement M
+has_length_spec = tie.close (tie.spec (λ c κs. tt) returns returns-2)

@@ -8,19 +8,17 @@ use Rattle.frames.proofs.shape.head_word.Tie as tie
 returns : tie.Need-returns
 unfolding head_word
 returns c =
-    let at-channel = c.before.before.before in
-    let at_count = at-channel.before.before in
-    rw (c.placed4.ensures, c.before.placed3.ensures, at-channel.placed2.ensures, at_count.placed.ensures, at_count.before.written.ensures)
+    rw (c.placed.ensures, c.placed-craft.ensures, c.placed-channel.ensures, c.placed-counted.ensures, c.written-signalling.ensures)
 
-pub head-word-spec : {M : Type 1} → statement M
-head-word-spec =
+pub head_word_spec : {M : Type 1} → statement M
+head_word_spec =
     tie.close
     (tie.spec
     (λ c κs. tt)
     (λ c κs. tt)
-    (λ c. Fits-32_64 c.struct_known.given.1.0)
+    (λ c. Fits-32_64 c.struct_known-1.given.1.0)
     (λ c κs. tt)
-    (λ c. Fits-32_64 c.struct-known2.given.0)
+    (λ c. Fits-32_64 c.struct_known-2-1.given.0)
     (λ c κs. tt)
     (λ c κs. tt)
     returns)

@@ -6,26 +6,24 @@ use Rattle.frames.specs.Shape.{heading_of}
 use Rattle.frames.proofs.shape.heading.Statement.{statement}
 use Rattle.frames.proofs.shape.heading.Tie as tie
 
-returns : tie.Need-returns
+returns : tie.Need-returns-then-refusal-ne0
 unfolding heading_of
-returns c = rw (c.refused.ensures, ← c.before.before.header-refusal.ensures, ne_eqb _ _ c.before.if1.true) refl
+returns c = rw (c.refused.ensures, ← c.header_refusal-refusal.ensures, ne_eqb _ _ c.if-refusal-ne0.true) refl
 
-cast-replay : tie.Need-overflow-cast-t9
-cast-replay c = record { fits = omega (arith, c.field.ensures, field_lt c.before.before.before.before.args.head 7 1) }
+cast-replay : tie.Need-overflow_cast-result
+cast-replay c = record { fits = omega (arith, c.field.ensures, field_lt c.args.head 7 1) }
 
-cast-pointer : tie.Need-overflow-cast-t13
+cast-pointer : tie.Need-overflow_cast-result-2
 cast-pointer c =
-    let start = c.before.before.before.before.before.before in
-    record { fits = omega (arith, c.field2.ensures, field_le start.args.zone c.before.pointer_at.result.below c.before.pointer_at.result.width, start.ranges.zone) }
+    record { fits = omega (arith, c.field-2.ensures, field_le c.args.zone c.pointer_at.result.below c.pointer_at.result.width, c.ranges.zone) }
 
-returns-2 : tie.Need-returns-2
+returns-2 : tie.Need-returns
 unfolding heading_of
 returns-2 c =
-    let at_count = c.before.before.before in
-    rw (c.field2.ensures, c.before.pointer_at.ensures, c.before.before.field.ensures, at_count.count_in.ensures, ← at_count.before.before.header-refusal.ensures, eq-eqb _ _ at_count.before.if1.false) refl
+    rw (c.field-2.ensures, c.pointer_at.ensures, c.field.ensures, c.count_in.ensures, ← c.header_refusal-refusal.ensures, eq-eqb _ _ c.if-refusal-ne0.false) refl
 
-pub heading-spec : {M : Type 1} → statement M
-heading-spec =
+pub heading_spec : {M : Type 1} → statement M
+heading_spec =
     tie.close
     (tie.spec
     (λ c κs. tt)

@@ -5,21 +5,19 @@ use Rattle.octets.specs.Basics.{first}
 use Rattle.frames.proofs.shape.outer_refusal.Statement.{statement}
 use Rattle.frames.proofs.shape.outer_refusal.Tie as tie
 
-returns : tie.Need-returns
+returns : tie.Need-returns-then-not-has_length
 unfolding first
-returns c = rw (← c.before.has_length.ensures, c.if1.true) refl
+returns c = rw (← c.has_length.ensures, c.if-not-has_length.true-raw) refl
 
-returns-2 : tie.Need-returns-2
+returns-2 : tie.Need-returns-then-is_wrong
 unfolding first
 returns-2 c =
-    let at = c.before in
-    rw (← at.before.before.has_length.ensures, at.before.if1.false, ← at.is_wrong.ensures, c.if2.true) refl
+    rw (← c.has_length.ensures, c.if-not-has_length.false-raw, ← c.is_wrong.ensures, c.if-is_wrong.true) refl
 
-returns-3 : tie.Need-returns-3
+returns-3 : tie.Need-returns
 unfolding first
 returns-3 c =
-    let at = c.before in
-    rw (← at.before.before.has_length.ensures, at.before.if1.false, ← at.is_wrong.ensures, c.if2.false) refl
+    rw (← c.has_length.ensures, c.if-not-has_length.false-raw, ← c.is_wrong.ensures, c.if-is_wrong.false) refl
 
-pub outer-refusal-spec : {M : Type 1} → statement M
-outer-refusal-spec = tie.close (tie.spec (λ c κs. tt) returns (λ c κs. tt) returns-2 returns-3)
+pub outer_refusal_spec : {M : Type 1} → statement M
+outer_refusal_spec = tie.close (tie.spec (λ c κs. tt) returns (λ c κs. tt) returns-2 returns-3)

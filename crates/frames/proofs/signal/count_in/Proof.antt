@@ -9,36 +9,36 @@ use Rattle.frames.proofs.Signals.{cycle_narrow}
 use Rattle.frames.proofs.signal.count_in.Statement.{statement}
 use Rattle.frames.proofs.signal.count_in.Tie as tie
 
-module _ (c : tie.After-field) where
+module _ (c : tie.After-field-cycle) where
   abbrev start : tie.Start
   start = c.before.before
 
-  cycle : c.field.result ≡ read (cycle_at start.args.l.edition) start.args.head
-  cycle = c.field.ensures ∙ ap (λ (at : Place). read at start.args.head) c.before.cycle_at.ensures
+  cycle : c.field-cycle.result ≡ read (cycle_at start.args.l.edition) start.args.head
+  cycle = c.field-cycle.ensures ∙ ap (λ (at : Place). read at start.args.head) c.cycle_at.ensures
 
-  cycle-small : c.field.result < 2 ^ 4
+  cycle-small : c.field-cycle.result < 2 ^ 4
   cycle-small =
       let e = start.args.l.edition in
       omega (arith, cycle, field_within 4 start.args.head 0 (cycle_width e) (cycle_narrow e))
 
-own-small : (c : tie.After-field2) → c.field2.result < 2 ^ own_width
-own-small c = omega (arith, c.field2.ensures, field_lt (start c.before).args.head 8 own_width)
+own-small : (c : tie.After-field-own) → c.field-own.result < 2 ^ own_width
+own-small c = omega (arith, c.field-own.ensures, field_lt (start c.before).args.head 8 own_width)
 
-cast-cycle : tie.Need-overflow-cast-cycle
+cast-cycle : tie.Need-overflow_cast-cycle
 cast-cycle c = record { fits = omega (arith, cycle-small c) }
 
-cast-own : tie.Need-overflow-cast-own
+cast-own : tie.Need-overflow_cast-own
 cast-own c = record { fits = omega (arith, own-small c) }
 
-add-result : tie.Need-overflow-add-result
+add-result : tie.Need-overflow_add-result
 add-result c = record { fits = omega (arith, cycle-small c.before, own-small c) }
 
 returns : tie.Need-returns
 unfolding count_in
-returns c = omega (arith, cycle c.before, c.field2.ensures, cycle-small c.before)
+returns c = omega (arith, cycle c.before, c.field-own.ensures, cycle-small c.before)
 
-pub count-in-spec : {M : Type 1} → statement M
-count-in-spec =
+pub count_in_spec : {M : Type 1} → statement M
+count_in_spec =
     tie.close
     (tie.spec
     (λ c κs. search rules)

@@ -6,12 +6,12 @@ use Rattle.frames.proofs.Signals.{cycle_narrow}
 use Rattle.frames.proofs.signal.count_width.Statement.{statement}
 use Rattle.frames.proofs.signal.count_width.Tie as tie
 
-add-result : tie.Need-overflow-add-result
-add-result c = record { fits = omega (arith, c.cycle_width.ensures, cycle_narrow c.before.args.l.edition) }
+add-result : tie.Need-overflow_add-result
+add-result c = record { fits = omega (arith, c.cycle_width.ensures, cycle_narrow c.args.l.edition) }
 
 returns : tie.Need-returns
 unfolding count_width
 returns c = rw c.cycle_width.ensures
 
-pub count-width-spec : {M : Type 1} → statement M
-count-width-spec = tie.close (tie.spec (λ c κs. search rules) add-result returns)
+pub count_width_spec : {M : Type 1} → statement M
+count_width_spec = tie.close (tie.spec (λ c κs. search rules) add-result returns)

@@ -7,5 +7,5 @@ use Rattle.frames.proofs.signal.cycle_at.Tie as tie
 returns : tie.Need-returns
 returns c = rw c.cycle_width.ensures
 
-pub cycle-at-spec : {M : Type 1} → statement M
-cycle-at-spec = tie.close (tie.spec (λ c κs. search rules) returns)
+pub cycle_at_spec : {M : Type 1} → statement M
+cycle_at_spec = tie.close (tie.spec (λ c κs. search rules) returns)

@@ -6,12 +6,12 @@ use Rattle.frames.proofs.Signals.{usage_small}
 use Rattle.frames.proofs.signal.cycle_width.Statement.{statement}
 use Rattle.frames.proofs.signal.cycle_width.Tie as tie
 
-mul-result : tie.Need-overflow-mul-result
-mul-result c = record { fits = omega (arith, c.usage.ensures, usage_small c.before.args.l.edition) }
+mul-result : tie.Need-overflow_mul-result
+mul-result c = record { fits = omega (arith, c.usage.ensures, usage_small c.args.l.edition) }
 
 returns : tie.Need-returns
 unfolding cycle_width
 returns c = rw c.usage.ensures
 
-pub cycle-width-spec : {M : Type 1} → statement M
-cycle-width-spec = tie.close (tie.spec (λ c κs. search rules) mul-result returns)
+pub cycle_width_spec : {M : Type 1} → statement M
+cycle_width_spec = tie.close (tie.spec (λ c κs. search rules) mul-result returns)

@@ -6,19 +6,17 @@ use Rattle.frames.proofs.Signals.{usage_small, unused_as, used_flags, signals_us
 use Rattle.frames.proofs.signal.is_right.Statement.{statement}
 use Rattle.frames.proofs.signal.is_right.Tie as tie
 
-returns : tie.Need-returns
+returns : tie.Need-returns-then-usage-eq0
 returns c =
-    let at = c.before in
-    let a = at.before.before.args in
-    let unset : usage a.l.edition ≡ 0 = sym at.before.usage.ensures ∙ at.if1.true in
+    let a = c.args in
+    let unset : usage a.l.edition ≡ 0 = sym c.usage.ensures ∙ c.if-usage-eq0.true in
     rw c.field.ensures (sym (signals_used a.l.edition a.head ∙ ap (λ (u : ℕ). used_as u a.head) unset ∙ unused_as a.head))
 
-returns-2 : tie.Need-returns-2
+returns-2 : tie.Need-returns
 returns-2 c =
-    let at = c.before in
-    let a = at.before.before.args in
-    let set : usage a.l.edition ≡ 1 = omega (arith, at.before.usage.ensures, at.if1.false, usage_small a.l.edition) in
-    rw c.field2.ensures (sym (signals_used a.l.edition a.head ∙ ap (λ (u : ℕ). used_as u a.head) set ∙ used_flags a.head))
+    let a = c.args in
+    let set : usage a.l.edition ≡ 1 = omega (arith, c.usage.ensures, c.if-usage-eq0.false, usage_small a.l.edition) in
+    rw c.field-2.ensures (sym (signals_used a.l.edition a.head ∙ ap (λ (u : ℕ). used_as u a.head) set ∙ used_flags a.head))
 
-pub is-right-spec : {M : Type 1} → statement M
-is-right-spec = tie.close (tie.spec (λ c κs. search rules) (λ c κs. search rules) returns (λ c κs. search rules) returns-2)
+pub is_right_spec : {M : Type 1} → statement M
+is_right_spec = tie.close (tie.spec (λ c κs. search rules) (λ c κs. search rules) returns (λ c κs. search rules) returns-2)

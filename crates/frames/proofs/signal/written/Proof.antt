@@ -8,12 +8,10 @@ use Rattle.frames.proofs.signal.written.Tie as tie
 returns : tie.Need-returns
 unfolding signalling
 returns c =
-    let at-used = c.before.before in
-    let at-usage = at-used.before in
-    rw (c.placed3.ensures, c.before.cycle_at.ensures, at-used.placed2.ensures, at-usage.usage.ensures, at-usage.before.placed.ensures)
+    rw (c.placed.ensures, c.cycle_at.ensures, c.placed-used.ensures, c.usage.ensures, c.placed-replayed.ensures)
 
-pub written-spec : {M : Type 1} → statement M
-written-spec =
+pub written_spec : {M : Type 1} → statement M
+written_spec =
     tie.close
     (tie.spec
     (λ c κs. search rules)

@@ -10,21 +10,21 @@ use Rattle.wrapping.proofs.front.first_octet.Statement.{statement}
 use Rattle.wrapping.proofs.front.first_octet.Tie as tie
 
 -- what is placed last
-octet : (c : tie.After-placed3) → c.placed3.result ≡ first_octet c.before.before.before.args.protocol c.before.before.before.args.code
+octet : (c : tie.After-placed) → c.placed.result ≡ first_octet c.args.protocol c.args.code
 unfolding first_octet
 octet c =
-    let a = c.before.before.before.args in
-    c.placed3.ensures
-    ∙ ap (λ (word : ℕ). placed word 0 2 a.code) (c.before.placed2.ensures ∙ ap (λ (word : ℕ). placed word 2 3 a.protocol) c.before.before.placed.ensures)
+    let a = c.args in
+    c.placed.ensures
+    ∙ ap (λ (word : ℕ). placed word 0 2 a.code) (c.placed-addressed.ensures ∙ ap (λ (word : ℕ). placed word 2 3 a.protocol) c.placed-versioned.ensures)
 
-cast-result : tie.Need-overflow-cast-result
+cast-result : tie.Need-overflow_cast-result
 cast-result c =
-    let a = c.before.before.before.args in
+    let a = c.args in
     record { fits = subst (λ (n : ℕ). n < 256) (sym (octet c)) (first_octet_lt a.protocol a.code) }
 
 returns : tie.Need-returns
 returns c = octet c
 
-pub first-octet-spec : {M : Type 1} → statement M
-first-octet-spec =
+pub first_octet_spec : {M : Type 1} → statement M
+first_octet_spec =
     tie.close (tie.spec (λ c. search rules) (λ c κs. search rules) (λ c κs. search rules) (λ c κs. search rules) cast-result returns)

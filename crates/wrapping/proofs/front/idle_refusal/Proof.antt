@@ -7,17 +7,17 @@ use Rattle.wrapping.specs.Idle.{idle_packet_rows}
 use Rattle.wrapping.proofs.front.idle_refusal.Statement.{statement}
 use Rattle.wrapping.proofs.front.idle_refusal.Tie as tie
 
-returns : tie.Need-returns
+returns : tie.Need-returns-then-r
 unfolding idle_packet_rows first
-returns c = rw c.if1.true refl
+returns c = rw c.if-r.true refl
 
-returns-2 : tie.Need-returns-2
+returns-2 : tie.Need-returns-then-room-r
 unfolding idle_packet_rows first
-returns-2 c = rw (c.before.if1.false, lt-ltb _ _ c.if2.true) refl
+returns-2 c = rw (c.if-r.false, lt-ltb _ _ c.if-room-r.true) refl
 
-returns-3 : tie.Need-returns-3
+returns-3 : tie.Need-returns
 unfolding idle_packet_rows first
-returns-3 c = rw (c.before.if1.false, le-ltb _ _ c.if2.false) refl
+returns-3 c = rw (c.if-r.false, le-ltb _ _ c.if-room-r.false) refl
 
-pub idle-refusal-spec : {M : Type 1} → statement M
-idle-refusal-spec = tie.close (tie.spec returns returns-2 returns-3)
+pub idle_refusal_spec : {M : Type 1} → statement M
+idle_refusal_spec = tie.close (tie.spec returns returns-2 returns-3)

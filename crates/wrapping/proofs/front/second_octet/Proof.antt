@@ -8,14 +8,14 @@ use borrow.Author.Rules.{rules}
 use Rattle.wrapping.proofs.front.second_octet.Statement.{statement}
 use Rattle.wrapping.proofs.front.second_octet.Tie as tie
 
-cast-result : tie.Need-overflow-cast-result
+cast-result : tie.Need-overflow_cast-result
 unfolding second_octet
 cast-result c =
-    record { fits = subst (λ (n : ℕ). n < 256) (sym c.placed.ensures) (second_octet_lt c.before.args.extension) }
+    record { fits = subst (λ (n : ℕ). n < 256) (sym c.placed.ensures) (second_octet_lt c.args.extension) }
 
 returns : tie.Need-returns
 unfolding second_octet
 returns c = c.placed.ensures
 
-pub second-octet-spec : {M : Type 1} → statement M
-second-octet-spec = tie.close (tie.spec (λ c κs. search rules) cast-result returns)
+pub second_octet_spec : {M : Type 1} → statement M
+second_octet_spec = tie.close (tie.spec (λ c κs. search rules) cast-result returns)

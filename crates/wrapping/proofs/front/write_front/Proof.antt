@@ -21,18 +21,12 @@ written protocol extension code total d at h s a b l p = cc (front_written proto
 
 returns : tie.Need-returns
 returns c =
-    let at-put = c.before.before in
-    let at-lay = at-put.before.before.before.before in
-    let at_second = at-lay.before.before.before in
-    let at_first = at_second.before in
-    let at_size = at_first.before in
-    let at_start = at_size.before.before in
-    let a = at_start.args in
-    written a.protocol a.extension a.code a.total a.out.now a.at at_start.requires at_size.header_length.ensures
-    at_first.first_octet.ensures at_second.second_octet.ensures at-lay.lay.ensures.left at-put.put.ensures.left
+    let a = c.args in
+    written a.protocol a.extension a.code a.total a.out.now a.at c.requires c.header_length-size.ensures
+    c.first_octet.ensures c.second_octet.ensures c.lay.ensures.left c.put.ensures.left
 
-pub write-front-spec : {M : Type 1} → statement M
-write-front-spec =
+pub write_front_spec : {M : Type 1} → statement M
+write_front_spec =
     tie.close
     (tie.spec
     (λ c κs. search rules)
