@@ -1,4 +1,6 @@
 // The bitstream channel: bits into frames, and the bits of a frame, call by call.
+#![tactic(auto)]
+
 ghost use Rattle.std.specs.Prelude.{◌≡◌, ◌≤◌};
 ghost use Rattle.octets.specs.Basics.{first, over};
 ghost use Rattle.frames.specs.Link.{zone_at};

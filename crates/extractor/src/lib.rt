@@ -1,4 +1,6 @@
 // The extractor: frames in, packets out, call by call.
+#![tactic(auto)]
+
 ghost use Rattle.std.specs.Prelude.{◌≡◌, ℕ, List, [], length};
 ghost use Rattle.octets.specs.Basics.{first};
 ghost use Rattle.frames.specs.Frame.{heading_rows};

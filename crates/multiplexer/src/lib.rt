@@ -1,4 +1,6 @@
 // The multiplexer: packets in, frames out, call by call.
+#![tactic(auto)]
+
 ghost use Rattle.std.specs.Prelude.{◌≡◌, ◌+◌, ◌-◌, ◌≤◌, length, eqb};
 ghost use Rattle.octets.specs.Basics.{pick, first};
 ghost use Rattle.wrapping.specs.Idle.{idle_packet};

@@ -119,8 +119,10 @@ module _ (os : List ℕ) where
   setup : (t fit : Bool) → leb setup_length (length os) ≡ t → fits settings ≡ fit → heard_of (1 ∷ os) ≡ reading (1 ∷ os)
   unfolding heard_of heard told body_length taken reading stands next_record
   setup true true t fit =
+      let begun : taken Start 1 (take (body_length Start 1) os) ≡ Running settings 0 = rw (whole_body setup_length os t, fit) refl in
       rw (t, whole_body setup_length os t, fit)
-      (ap (with_setup settings)
+      (ap (λ (r : Progress). with_setup settings (heard (suc (length os)) r (drop setup_length os))) begun
+      ∙ ap (with_setup settings)
       (heard_running settings fit (setup_no_fill (take setup_length os)) (suc (length os)) (suc (length os)) 0 (drop setup_length os)
       (omega arith) (rw length-drop (omega arith)) (rw length-drop (omega arith))))
   setup true false t fit = heard_bad (suc (length os)) Start 1 0 os (rw (whole_body setup_length os t, fit) refl) ∙ sym (rw (t, fit) refl)

@@ -1,4 +1,6 @@
 // Run files: the records of a run, read one after the other. The progress of a reader is passed by value and holds no octet of them.
+#![tactic(auto)]
+
 ghost use Rattle.std.specs.Prelude.{◌≡◌, true};
 ghost use Rattle.frames.specs.Frame.{frame_length};
 ghost use Rattle.runfile.specs.RunFile.{setup_of, plain, fits};

@@ -13,12 +13,12 @@ use Rattle.bitstream.proofs.Laid.{filled, laid_whole, laid_mixed}
 use Rattle.bitstream.proofs.lay_bits.Statement.{statement}
 use Rattle.bitstream.proofs.lay_bits.Tie as tie
 
-sub-fill : tie.Need-overflow-sub-fill
+sub-fill : tie.Need-overflow_sub-s
 unfolding octets_for
-sub-fill c = omega (arith, c.before.before.before.before.before.before.before.before.requires.inside)
+sub-fill c = omega (arith, c.requires.inside)
 
 -- before the last octet is looked at
-module _ (c : tie.After-slice-known3) where
+module _ (c : tie.After-slice_known-3-1) where
   abbrev at_fill : tie.After-fill
   at_fill = c.before.before
 
@@ -28,41 +28,41 @@ module _ (c : tie.After-slice-known3) where
   abbrev start : tie.Start
   start = at-lay.before.before.before.before
 
-  so_far : at_fill.fill.last.0 ≡ over start.args.frame.now 8 (take (start.args.n / 8) start.args.bits.now ++ replicate (start.args.s.width - start.args.n / 8) start.args.s.fill)
+  so_far : at_fill.fill.new.buf ≡ over start.args.frame.now 8 (take (start.args.n / 8) start.args.bits.now ++ replicate (start.args.s.width - start.args.n / 8) start.args.s.fill)
   so_far =
-      filled start.args.s start.args.n start.args.bits.now start.args.frame.now start.pre _ _
+      filled start.args.s start.args.n start.args.bits.now start.args.frame.now start.requires _ _
       at-lay.lay.ensures.left at_fill.fill.ensures.left
 
-  as_long : length at_fill.fill.last.0 ≡ length start.args.frame.now
-  as_long = omega (arith, at_fill.fill.kept.0, at-lay.lay.kept.0)
+  as_long : length at_fill.fill.new.buf ≡ length start.args.frame.now
+  as_long = omega (arith, at_fill.fill.auto.buf, at-lay.lay.auto.buf)
 
-shared-slice-read-mixed : tie.Need-shared-slice-read-mixed
+shared-slice-read-mixed : tie.Need-bounds-bits-whole
 unfolding octets_for
-shared-slice-read-mixed c = omega (arith, (start c.before.before).pre.lent, c.before.if1.true)
+shared-slice-read-mixed c = omega (arith, (start c.before.before).requires.lent, c.if-n-ne0.true)
 
-slice-write-frame : tie.Need-slice-write-frame
+slice-write-frame : tie.Need-bounds-frame-at
 unfolding octets_for bit_frame_length
 slice-write-frame c =
     let at = c.before.before.before in
-    omega (arith, as_long at, (start at).requires.inside, (start at).requires.room, c.before.before.if1.true)
+    omega (arith, as_long at, (start at).requires.inside, (start at).requires.room, c.if-n-ne0.true)
 
-same_length : tie.Need-same-length
+same_length : tie.Need-shape_of-frame-then-n-ne0
 same_length c = simp length-set (as_long c.before.before.before)
 
-returns : tie.Need-returns
+returns : tie.Need-returns-then-n-ne0
 returns c =
     let at = c.before.before.before in
     let a = (start at).args in
-    laid_mixed a.s a.n a.bits.now a.frame.now (start at).requires _ _ (omega (arith, c.before.before.if1.true)) (so_far at) c.mixed.ensures
+    laid_mixed a.s a.n a.bits.now a.frame.now (start at).requires _ _ (omega (arith, c.if-n-ne0.true)) (so_far at) c.mixed.ensures
 
-returns-2 : tie.Need-returns-2
+returns-2 : tie.Need-returns-else-n-ne0
 returns-2 c =
     let at = c.before in
     let a = (start at).args in
-    laid_whole a.s a.n a.bits.now a.frame.now (start at).requires _ c.if1.false (so_far at)
+    laid_whole a.s a.n a.bits.now a.frame.now (start at).requires _ c.if-n-ne0.false (so_far at)
 
-pub lay-bits-spec : {M : Type 1} → statement M
-lay-bits-spec =
+pub lay_bits_spec : {M : Type 1} → statement M
+lay_bits_spec =
     tie.close
     (tie.spec
     (λ c. search rules)

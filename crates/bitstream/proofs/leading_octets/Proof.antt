@@ -33,44 +33,44 @@ module _ (s : BitSettings) (n : ℕ) (f : List ℕ) {long : Bool} (l : long ≡ 
       omega arith
 
 -- both tests are the definition's
-module _ (c : tie.After-struct-known) where
+module _ (c : tie.After-struct_known-1) where
   abbrev start : tie.Start
   start = c.before.before.before.before
 
-  tests : and c.before.has_length.result (leb c.before.before.octets_for.result start.args.s.width)
+  tests : and c.has_length.result (leb c.octets_for-needed.result start.args.s.width)
       ≡ held_in start.args.s start.args.n start.args.frame.now
-  tests = held_by start.args.s start.args.n start.args.frame.now c.before.has_length.ensures c.before.before.octets_for.ensures
+  tests = held_by start.args.s start.args.n start.args.frame.now c.has_length.ensures c.octets_for-needed.ensures
 
 -- the octets end within the frame
-within : (c : tie.Then1) → 8 + c.before.before.before.octets_for.result ≤ length (start c.before).args.frame.now
+within : (c : tie.Then-has_length-needed) → 8 + c.octets_for-needed.result ≤ length (start c.before).args.frame.now
 within c =
     let a = (start c.before).args in
-    held-within a.s a.n a.frame.now c.before.before.has_length.ensures _ c.if1.true
+    held-within a.s a.n a.frame.now c.has_length.ensures _ c.if-has_length-needed.true
 
-add-end : tie.Need-overflow-add-end
-add-end c = record { fits = omega (arith, within c, (start c.before).good.1.1.0) }
+add-end : tie.Need-overflow_add-end
+add-end c = record { fits = omega (arith, within c, (start c.before).well_formed.1.1.0) }
 
-part-result-end : tie.Need-slice-bounds-result-end
+part-result-end : tie.Need-slice_bounds-result-end
 part-result-end c = within c
 
-returns : tie.Need-returns
+returns : tie.Need-returns-then-has_length-needed
 returns c =
     let at-if1 = c.before in
     let at = at-if1.before in
     let a = (start at).args in
-    let size : 8 + at.before.before.octets_for.result - 8 ≡ octets_for a.n = omega (arith, at.before.before.octets_for.ensures) in
+    let size : 8 + at.octets_for-needed.result - 8 ≡ octets_for a.n = omega (arith, at.octets_for-needed.ensures) in
     ap (λ (k : ℕ). take k (drop 8 a.frame.now)) size
-    ∙ sym (leading_some a.s a.n a.frame.now (sym (tests at) ∙ at-if1.if1.true))
+    ∙ sym (leading_some a.s a.n a.frame.now (sym (tests at) ∙ at-if1.if-has_length-needed.true))
 
-returns-2 : tie.Need-returns-2
+returns-2 : tie.Need-returns
 returns-2 c =
     let at-if1 = c.before in
     let at = at-if1.before in
     let a = (start at).args in
-    sym (leading_none a.s a.n a.frame.now (sym (tests at) ∙ at-if1.if1.false))
+    sym (leading_none a.s a.n a.frame.now (sym (tests at) ∙ at-if1.if-has_length-needed.false))
 
-pub leading-octets-spec : {M : Type 1} → statement M
-leading-octets-spec =
+pub leading_octets_spec : {M : Type 1} → statement M
+leading_octets_spec =
     tie.close
     (tie.spec
     (λ c κs. search rules)

@@ -7,15 +7,15 @@ use Rattle.bitstream.proofs.Bits.{mixed_lt}
 use Rattle.bitstream.proofs.mixed.Statement.{statement}
 use Rattle.bitstream.proofs.mixed.Tie as tie
 
-cast-result : tie.Need-overflow-cast-result
+cast-result : tie.Need-overflow_cast-result
 unfolding mixed
 cast-result c =
-    let a = c.before.args in
+    let a = c.args in
     record { fits = rw c.placed.ensures (mixed_lt a.k a.bits _ (omega arith) (omega arith)) }
 
 returns : tie.Need-returns
 unfolding mixed
 returns c = search rules
 
-pub mixed-spec : {M : Type 1} → statement M
-mixed-spec = tie.close (tie.spec (λ c. search rules) (λ c κs. search rules) cast-result returns)
+pub mixed_spec : {M : Type 1} → statement M
+mixed_spec = tie.close (tie.spec (λ c. search rules) (λ c κs. search rules) cast-result returns)

@@ -6,13 +6,13 @@ use Rattle.bitstream.specs.Bitstream.{octets_for}
 use Rattle.bitstream.proofs.octets_for.Statement.{statement}
 use Rattle.bitstream.proofs.octets_for.Tie as tie
 
-returns : tie.Need-returns
+returns : tie.Need-returns-then-n-eq0
 unfolding octets_for
 returns c = omega arith
 
-returns-2 : tie.Need-returns-2
+returns-2 : tie.Need-returns-else-n-eq0
 unfolding octets_for
 returns-2 c = omega arith
 
-pub octets-for-spec : {M : Type 1} → statement M
-octets-for-spec = tie.close (tie.spec (λ c. search rules) returns returns-2)
+pub octets_for_spec : {M : Type 1} → statement M
+octets_for_spec = tie.close (tie.spec (λ c. search rules) returns returns-2)

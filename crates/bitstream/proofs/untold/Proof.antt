@@ -5,13 +5,13 @@ use Rattle.bitstream.specs.Bitstream.{untold}
 use Rattle.bitstream.proofs.untold.Statement.{statement}
 use Rattle.bitstream.proofs.untold.Tie as tie
 
-returns : tie.Need-returns
+returns : tie.Need-returns-in-Fresh
 unfolding untold
-returns c = rw c.enum_told.given.1
+returns c = rw c.in-Fresh.is
 
-returns-2 : tie.Need-returns-2
+returns-2 : tie.Need-returns-in-Last
 unfolding untold
-returns-2 c = rw (c.next_count.ensures, c.before.before.x.given.1)
+returns-2 c = rw (c.next_count.ensures, c.in-Last.is)
 
-pub untold-spec : {M : Type 1} → statement M
-untold-spec = tie.close (tie.spec (λ c. search rules) (λ c. search rules) (λ c κs. search rules) returns returns-2)
+pub untold_spec : {M : Type 1} → statement M
+untold_spec = tie.close (tie.spec (λ c. search rules) (λ c. search rules) (λ c κs. search rules) returns returns-2)

@@ -7,17 +7,17 @@ use Rattle.bitstream.specs.Bitstream.{valid_bits}
 use Rattle.bitstream.proofs.valid_bits.Statement.{statement}
 use Rattle.bitstream.proofs.valid_bits.Tie as tie
 
-returns : tie.Need-returns
+returns : tie.Need-returns-then-pointer-eq-FILL_ONLY
 unfolding valid_bits
-returns c = rw (eq-eqb _ _ c.if1.true) refl
+returns c = rw (eq-eqb _ _ c.if-pointer-eq-FILL_ONLY.true) refl
 
-returns-2 : tie.Need-returns-2
+returns-2 : tie.Need-returns-then-pointer-eq-ALL_VALID
 unfolding valid_bits
-returns-2 c = rw (ne_eqb _ _ c.before.before.if1.false, eq-eqb _ _ c.before.if2.true) refl
+returns-2 c = rw (ne_eqb _ _ c.if-pointer-eq-FILL_ONLY.false, eq-eqb _ _ c.if-pointer-eq-ALL_VALID.true) refl
 
-returns-3 : tie.Need-returns-3
+returns-3 : tie.Need-returns
 unfolding valid_bits
-returns-3 c = rw (ne_eqb _ _ c.before.if1.false, ne_eqb _ _ c.if2.false) refl
+returns-3 c = rw (ne_eqb _ _ c.if-pointer-eq-FILL_ONLY.false, ne_eqb _ _ c.if-pointer-eq-ALL_VALID.false) refl
 
-pub valid-bits-spec : {M : Type 1} → statement M
-valid-bits-spec = tie.close (tie.spec returns (λ c. search rules) returns-2 (λ c. search rules) returns-3)
+pub valid_bits_spec : {M : Type 1} → statement M
+valid_bits_spec = tie.close (tie.spec returns (λ c. search rules) returns-2 (λ c. search rules) returns-3)

@@ -13,28 +13,28 @@ use Rattle.bitstream.proofs.Writes.{Allowed, allowed, headed, framed, write_done
 use Rattle.bitstream.proofs.write.Statement.{statement}
 use Rattle.bitstream.proofs.write.Tie as tie
 
-returns : tie.Need-returns
+returns : tie.Need-returns-then-refusal-ne0
 returns c =
-    let a = c.before.before.before.before.args in
-    write_refused a.s a.w a.n a.bits.now a.frame.now _ c.before.write_refusal.ensures c.if1.true
+    let a = c.args in
+    write_refused a.s a.w a.n a.bits.now a.frame.now _ c.write_refusal-refusal.ensures c.if-refusal-ne0.true
 
 -- where no row holds
-module _ (c : tie.Else1) where
+module _ (c : tie.Else-refusal-ne0) where
   abbrev start : tie.Start
   start = c.before.before.before.before
 
   none : first (write_rows start.args.s start.args.w start.args.n (length start.args.bits.now) (length start.args.frame.now)) ≡ 0
-  none = sym c.before.write_refusal.ensures ∙ c.if1.false
+  none = sym c.write_refusal-refusal.ensures ∙ c.if-refusal-ne0.false
 
   given : Allowed start.args.s start.args.w start.args.n (length start.args.bits.now) (length start.args.frame.now)
   given = allowed _ _ _ _ _ none
 
-pointer-for-requires : tie.Need-pointer-for-requires
+pointer-for-requires : tie.Need-pointer_for-requires
 pointer-for-requires c κs =
     let a = (start c).args in
     (octets_fit a.n a.s.width (given c).inside, (bits_settled a.s (given c).in_range).width_most)
 
-lay-bits-requires : tie.Need-lay-bits-requires
+lay-bits-requires : tie.Need-lay_bits-requires
 lay-bits-requires c κs =
     let at_head = c.before.before.before in
     let at = at_head.before.before.before in
@@ -42,30 +42,27 @@ lay-bits-requires c κs =
     record {
       inside = octets_fit a.n a.s.width (given at).inside;
       lent = (given at).lent_enough;
-      room = omega (arith, at_head.write_head.auto.1.1.1.0, (given at).room_enough);
+      room = omega (arith, at_head.write_head.auto.buf, (given at).room_enough);
     }
 
-add-end-frame : tie.Need-overflow-add-end-frame
+add-end-frame : tie.Need-overflow_add-s
 add-end-frame c =
     let at-lay = c.before.before.before.before in
     let at_head = at-lay.before.before.before.before in
     let at = at_head.before.before.before in
     record { fits = omega (arith, (bits_settled (start at).args.s (given at).in_range).width_most) }
 
-returns-2 : tie.Need-returns-2
+returns-2 : tie.Need-returns
 returns-2 c =
-    let at-end = c.before.before.before in
-    let at-lay = at-end.before.before.before.before.before in
-    let at_head = at-lay.before.before.before.before in
-    let at = at_head.before.before.before in
-    let a = (start at).args in
+    let at = c.before.before.before.before.before.before.before.before.before.before.before.before.before.before.before.before in
+    let a = c.args in
     write_done a.s a.w a.n a.bits.now a.frame.now _ _ (none at) c.next_count.ensures
     (framed a.s a.w a.n a.bits.now a.frame.now (given at) _ _ _
     (headed a.s a.w a.n a.bits.now a.frame.now (given at) _ _
-    (rw at_head.before.before.pointer_for.ensures at at_head.write_head.ensures.0)
-    (rw at_head.before.before.pointer_for.ensures at at_head.write_head.ensures.1))
-    at-lay.lay-bits.ensures
-    at-end.end_frame.ensures)
+    (rw c.pointer_for.ensures at c.write_head.ensures.0)
+    (rw c.pointer_for.ensures at c.write_head.ensures.1))
+    c.lay_bits.ensures
+    c.end_frame.ensures)
 
 pub write_spec : {M : Type 1} → statement M
 write_spec =

@@ -12,44 +12,44 @@ use Rattle.bitstream.proofs.write_refusal.Statement.{statement}
 use Rattle.bitstream.proofs.write_refusal.Tie as tie
 
 -- the rows that are tested first
-module _ (c : tie.After-struct-known) where
+module _ (c : tie.After-struct_known-1) where
   abbrev start : tie.Start
   start = c.before.before.before
 
   settings : not (and (bits_in_range start.args.s) (leb start.args.n (most_bits start.args.s)))
-      ≡ not (and c.before.in_range.result (leb c.before.before.octets_for.result start.args.s.width))
-  settings = rw (← c.before.in_range.ensures, ← octets_within start.args.n start.args.s.width, ← c.before.before.octets_for.ensures)
+      ≡ not (and c.in_range.result (leb c.octets_for-needed.result start.args.s.width))
+  settings = rw (← c.in_range.ensures, ← octets_within start.args.n start.args.s.width, ← c.octets_for-needed.ensures)
 
-module _ (c : tie.After-is-short) where
-  abbrev tested : tie.After-struct-known
+module _ (c : tie.After-is_short) where
+  abbrev tested : tie.After-struct_known-1
   tested = c.before.before
 
   room : or (ltb (start tested).args.room (bit_frame_length (start tested).args.s)) (ltb (start tested).args.lent (octets_for (start tested).args.n))
-      ≡ or c.is_short.result (ltb (start tested).args.lent tested.before.before.octets_for.result)
-  room = rw (← c.is_short.ensures, ← tested.before.before.octets_for.ensures)
+      ≡ or c.is_short.result (ltb (start tested).args.lent tested.octets_for-needed.result)
+  room = rw (← c.is_short.ensures, ← tested.octets_for-needed.ensures)
 
-returns : tie.Need-returns
+returns : tie.Need-returns-then-not-in_range-needed
 unfolding first write_rows
-returns c = rw (settings c.before, c.if1.true)
+returns c = rw (settings c.before, c.if-not-in_range-needed.true-raw)
 
-returns-2 : tie.Need-returns-2
+returns-2 : tie.Need-returns-then-is_short-lent
 unfolding first write_rows
-returns-2 c = rw (settings (tested c.before), c.before.before.if1.false, room c.before, c.if2.true)
+returns-2 c = rw (settings (tested c.before), c.if-not-in_range-needed.false-raw, room c.before, c.if-is_short-lent.true)
 
-returns-3 : tie.Need-returns-3
+returns-3 : tie.Need-returns-then-not-writer_reachable
 unfolding first write_rows
 returns-3 c =
     let at = c.before.before in
-    rw (settings (tested at.before), at.before.before.if1.false, room at.before, at.if2.false, ← c.before.writer_reachable.ensures, c.if3.true)
+    rw (settings (tested at.before), at.if-not-in_range-needed.false-raw, room at.before, at.if-is_short-lent.false, ← c.writer_reachable.ensures, c.if-not-writer_reachable.true-raw)
 
-returns-4 : tie.Need-returns-4
+returns-4 : tie.Need-returns
 unfolding first write_rows
 returns-4 c =
     let at = c.before.before in
-    rw (settings (tested at.before), at.before.before.if1.false, room at.before, at.if2.false, ← c.before.writer_reachable.ensures, c.if3.false)
+    rw (settings (tested at.before), at.if-not-in_range-needed.false-raw, room at.before, at.if-is_short-lent.false, ← c.writer_reachable.ensures, c.if-not-writer_reachable.false-raw)
 
-pub write-refusal-spec : {M : Type 1} → statement M
-write-refusal-spec =
+pub write_refusal_spec : {M : Type 1} → statement M
+write_refusal_spec =
     tie.close
     (tie.spec
     (λ c κs. search rules)

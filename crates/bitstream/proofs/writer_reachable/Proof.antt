@@ -8,7 +8,7 @@ use Rattle.bitstream.proofs.writer_reachable.Tie as tie
 
 returns : tie.Need-returns
 unfolding writer_reachable
-returns c = rw c.before.wheel_of.ensures refl
+returns c = rw c.wheel_of.ensures refl
 
-pub writer-reachable-spec : {M : Type 1} → statement M
-writer-reachable-spec = tie.close (tie.spec (λ c κs. search rules) returns)
+pub writer_reachable_spec : {M : Type 1} → statement M
+writer_reachable_spec = tie.close (tie.spec (λ c κs. search rules) returns)

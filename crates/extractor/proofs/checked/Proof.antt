@@ -6,13 +6,13 @@ use borrow.Author.Rules.{rules}
 use Rattle.extractor.proofs.checked.Statement.{statement}
 use Rattle.extractor.proofs.checked.Tie as tie
 
-returns : tie.Need-returns
+returns : tie.Need-returns-then-not-in_range
 unfolding first
-returns c store r says = rw (← c.before.in_range.ensures, c.if1.true) refl
+returns c store r says = rw (← c.in_range.ensures, c.if-not-in_range.true-raw) refl
 
-returns-2 : tie.Need-returns-2
+returns-2 : tie.Need-returns
 unfolding first
-returns-2 c store r says = rw (← c.before.before.in_range.ensures, c.before.if1.false) (c.refusal.ensures store r says)
+returns-2 c store r says = rw (← c.in_range.ensures, c.if-not-in_range.false-raw) (c.refusal.ensures store r says)
 
-pub checked-spec : {M : Type 1} → statement M
-checked-spec = tie.close (tie.spec (λ c κs. search rules) returns (λ c κs. search rules) returns-2)
+pub checked_spec : {M : Type 1} → statement M
+checked_spec = tie.close (tie.spec (λ c κs. search rules) returns (λ c κs. search rules) returns-2)

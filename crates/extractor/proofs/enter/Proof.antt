@@ -12,25 +12,25 @@ use Rattle.extractor.proofs.enter.Statement.{statement}
 use Rattle.extractor.proofs.enter.Tie as tie
 
 -- the first row that holds, at the place where it is found
-its_refusal : (c : tie.After-enter-refusal)
-    → let a = c.before.before.before.before.before.args in
-    c.enter-refusal.result ≡ first (enter_rows a.s a.x a.store.now a.frame.now)
+its_refusal : (c : tie.After-enter_refusal-refusal)
+    → let a = c.args in
+    c.enter_refusal-refusal.result ≡ first (enter_rows a.s a.x a.store.now a.frame.now)
 its_refusal c =
-    let a = c.before.before.before.before.before.args in
-    c.enter-refusal.ensures a.store.now a.frame.now refl c.before.stated.ensures
-    (ap (λ (h : Heading). h.refusal) c.before.before.read_head.ensures ∙ heading_refusal a.s a.frame.now)
+    let a = c.args in
+    c.enter_refusal-refusal.ensures a.store.now a.frame.now refl c.stated-stated.ensures
+    (ap (λ (h : Heading). h.refusal) c.read_head-heading.ensures ∙ heading_refusal a.s a.frame.now)
 
-returns : tie.Need-returns
+returns : tie.Need-returns-then-refusal-ne0
 unfolding enter_answer entered_numbers
-returns c = rw (← its_refusal c.before, ne_eqb _ _ c.if1.true) refl
+returns c = rw (← its_refusal c.before, ne_eqb _ _ c.if-refusal-ne0.true) refl
 
 taken-requires : tie.Need-taken-requires
 taken-requires c κs =
-    (sym (its_refusal c.before) ∙ c.if1.false, (c.before.before.before.read_head.ensures, c.before.before.stated.ensures))
+    (sym (its_refusal c.before) ∙ c.if-refusal-ne0.false, (c.read_head-heading.ensures, c.stated-stated.ensures))
 
-returns-2 : tie.Need-returns-2
+returns-2 : tie.Need-returns
 unfolding enter_answer
-returns-2 c = rw (← its_refusal c.before.before, eq-eqb _ _ c.before.if1.false) c.taken.ensures
+returns-2 c = rw (← its_refusal c.before.before, eq-eqb _ _ c.if-refusal-ne0.false) c.taken.ensures
 
 pub enter_spec : {M : Type 1} → statement M
 enter_spec =

@@ -6,7 +6,7 @@ use Rattle.extractor.proofs.record_refusal.Statement.{statement}
 use Rattle.extractor.proofs.record_refusal.Tie as tie
 
 returns : tie.Need-returns
-returns c = c.checked.ensures c.before.before.before.args.store.now refl c.before.stated.ensures
+returns c = c.checked.ensures c.args.store.now refl c.stated.ensures
 
-pub record-refusal-spec : {M : Type 1} → statement M
-record-refusal-spec = tie.close (tie.spec (λ c κs. search rules) (λ c κs. search rules) returns)
+pub record_refusal_spec : {M : Type 1} → statement M
+record_refusal_spec = tie.close (tie.spec (λ c κs. search rules) (λ c κs. search rules) returns)

@@ -7,28 +7,28 @@ use borrow.Author.Rules.{rules}
 use Rattle.extractor.proofs.show.Statement.{statement}
 use Rattle.extractor.proofs.show.Tie as tie
 
-returns : tie.Need-returns
+returns : tie.Need-returns-in-InFrame
 unfolding shown
-returns c = rw c.before.before.found.given.1 c.part.ensures
+returns c = rw c.in-InFrame.is c.part.ensures
 
-returns-2 : tie.Need-returns-2
+returns-2 : tie.Need-returns-in-InStore
 unfolding shown
-returns-2 c = rw c.before.before.found2.given.1 c.part2.ensures
+returns-2 c = rw c.in-InStore.is c.part-in-InStore.ensures
 
-returns-3 : tie.Need-returns-3
+returns-3 : tie.Need-returns-in-Refused
 unfolding shown
-returns-3 c = rw c.before.enum_told.given.1 (c.part3.ensures ∙ no_part _)
+returns-3 c = rw c.in-Refused.is (c.part-in-Refused.ensures ∙ no_part _)
 
-returns-4 : tie.Need-returns-4
+returns-4 : tie.Need-returns-in-Damaged
 unfolding shown
-returns-4 c = rw c.before.enum-told2.given.1 (c.part4.ensures ∙ no_part _)
+returns-4 c = rw c.in-Damaged.is (c.part-in-Damaged.ensures ∙ no_part _)
 
-returns-5 : tie.Need-returns-5
+returns-5 : tie.Need-returns-in-Spent
 unfolding shown
-returns-5 c = rw c.before.enum-told3.given.1 (c.part5.ensures ∙ no_part _)
+returns-5 c = rw c.in-Spent.is (c.part-in-Spent.ensures ∙ no_part _)
 
-pub show-spec : {M : Type 1} → statement M
-show-spec =
+pub show_spec : {M : Type 1} → statement M
+show_spec =
     tie.close
     (tie.spec
     (λ c. search rules)

@@ -11,25 +11,25 @@ use Rattle.extractor.proofs.spend.Statement.{statement}
 use Rattle.extractor.proofs.spend.Tie as tie
 
 -- the first row that holds, at the place where it is found
-its_refusal : (c : tie.After-step-refusal)
-    → let a = c.before.before.before.before.before.args in
-    c.step-refusal.result ≡ first (step_rows a.s a.x a.store.now a.frame.now)
+its_refusal : (c : tie.After-step_refusal-refusal)
+    → let a = c.args in
+    c.step_refusal-refusal.result ≡ first (step_rows a.s a.x a.store.now a.frame.now)
 its_refusal c =
-    let a = c.before.before.before.before.before.args in
-    c.step-refusal.ensures a.store.now a.frame.now refl refl c.before.stated.ensures
+    let a = c.args in
+    c.step_refusal-refusal.ensures a.store.now a.frame.now refl refl c.stated-stated.ensures
 
-returns : tie.Need-returns
+returns : tie.Need-returns-then-refusal-ne0
 returns c =
-    let a = c.before.before.before.before.before.before.args in
-    rw (spends_by_rows a.s a.frame.now a.x a.store.now, ← its_refusal c.before, ne_eqb _ _ c.if1.true) refl
+    let a = c.args in
+    rw (spends_by_rows a.s a.frame.now a.x a.store.now, ← its_refusal c.before, ne_eqb _ _ c.if-refusal-ne0.true) refl
 
-spent-requires : tie.Need-spent-requires
-spent-requires c κs = (sym (its_refusal c.before.before) ∙ c.before.if1.false, c.before.before.before.stated.ensures)
+spent-requires : tie.Need-spent-next-requires
+spent-requires c κs = (sym (its_refusal c.before.before) ∙ c.if-refusal-ne0.false, c.stated-stated.ensures)
 
-returns-2 : tie.Need-returns-2
+returns-2 : tie.Need-returns
 unfolding spend_answer
 returns-2 c =
-    let e = c.before.before.spent.ensures in
+    let e = c.spent-next.ensures in
     rw (its_refusal c.before.before.before.before.before, e.0, e.1) refl
 
 pub spend_spec : {M : Type 1} → statement M

@@ -10,26 +10,26 @@ use Rattle.extractor.proofs.step.Statement.{statement}
 use Rattle.extractor.proofs.step.Tie as tie
 
 -- the first row that holds, at the place where it is found
-its_refusal : (c : tie.After-step-refusal)
-    → let a = c.before.before.before.before.before.args in
-    c.step-refusal.result ≡ first (step_rows a.s a.x a.store.now a.frame.now)
+its_refusal : (c : tie.After-step_refusal-refusal)
+    → let a = c.args in
+    c.step_refusal-refusal.result ≡ first (step_rows a.s a.x a.store.now a.frame.now)
 its_refusal c =
-    let a = c.before.before.before.before.before.args in
-    c.step-refusal.ensures a.store.now a.frame.now refl refl c.before.stated.ensures
+    let a = c.args in
+    c.step_refusal-refusal.ensures a.store.now a.frame.now refl refl c.stated-stated.ensures
 
-returns : tie.Need-returns
+returns : tie.Need-returns-then-refusal-ne0
 unfolding step_answer step_call
-returns c = rw (← its_refusal c.before, ne_eqb _ _ c.if1.true) refl
+returns c = rw (← its_refusal c.before, ne_eqb _ _ c.if-refusal-ne0.true) refl
 
 moved-requires : tie.Need-moved-requires
-moved-requires c κs = (sym (its_refusal c.before.before) ∙ c.before.if1.false, c.before.before.before.stated.ensures)
+moved-requires c κs = (sym (its_refusal c.before.before) ∙ c.if-refusal-ne0.false, c.stated-stated.ensures)
 
-returns-2 : tie.Need-returns-2
+returns-2 : tie.Need-returns
 unfolding step_answer step_call
 returns-2 c =
     let at-if1 = c.before.before.before.before in
-    rw (← its_refusal at-if1.before, eq-eqb _ _ at-if1.if1.false)
-    (ap (said at-if1.before.before.before.before.before.before.args.frame.now) c.before.before.moved.ensures)
+    rw (← its_refusal at-if1.before, eq-eqb _ _ at-if1.if-refusal-ne0.false)
+    (ap (said at-if1.args.frame.now) c.moved.ensures)
 
 pub step_spec : {M : Type 1} → statement M
 step_spec =

@@ -16,7 +16,7 @@ use Rattle.extractor.proofs.step_refusal.Statement.{statement}
 use Rattle.extractor.proofs.step_refusal.Tie as tie
 
 -- the rows below the record's
-module _ (c : tie.Else1) (store f : List ℕ) where
+module _ (c : tie.Else-of_record-ne0) (store f : List ℕ) where
   abbrev start : tie.Start
   start = c.before.before
 
@@ -24,34 +24,34 @@ module _ (c : tie.Else1) (store f : List ℕ) where
     lower : {n : ℕ} → n ≡ first (row 9 (not (is_entered start.args.x)) ∷ row 3 (not (eqb (length f) (frame_length start.args.s))) ∷ [])
         → n ≡ first (step_rows start.args.s start.args.x store f)
     unfolding step_rows
-    lower e = e ∙ refused_below start.args.s start.args.x store _ (c.before.checked.ensures store r says) c.if1.false
+    lower e = e ∙ refused_below start.args.s start.args.x store _ (c.checked-of_record.ensures store r says) c.if-of_record-ne0.false
 
-returns : tie.Need-returns
+returns : tie.Need-returns-then-of_record-ne0
 unfolding step_rows
 returns c store f r l says =
-    let a = c.before.before.args in
-    refused_above a.s a.x store _ (c.before.checked.ensures store r says) c.if1.true
+    let a = c.args in
+    refused_above a.s a.x store _ (c.checked-of_record.ensures store r says) c.if-of_record-ne0.true
 
-returns-2 : tie.Need-returns-2
+returns-2 : tie.Need-returns-then-not-is_entered
 unfolding first
-returns-2 c store f r l says = lower c.before.before store f r says (rw (← c.before.is_entered.ensures, c.if2.true) refl)
+returns-2 c store f r l says = lower c.before.before store f r says (rw (← c.is_entered.ensures, c.if-not-is_entered.true-raw) refl)
 
-returns-3 : tie.Need-returns-3
+returns-3 : tie.Need-returns-then-not-has_length
 unfolding first
 returns-3 c store f r l says =
     let at-if2 = c.before.before in
     lower at-if2.before.before store f r says
-    (rw (← at-if2.before.is_entered.ensures, at-if2.if2.false, ← l, ← c.before.has_length.ensures, c.if3.true) refl)
+    (rw (← at-if2.is_entered.ensures, at-if2.if-not-is_entered.false-raw, ← l, ← c.has_length.ensures, c.if-not-has_length.true-raw) refl)
 
-returns-4 : tie.Need-returns-4
+returns-4 : tie.Need-returns
 unfolding first
 returns-4 c store f r l says =
     let at-if2 = c.before.before in
     lower at-if2.before.before store f r says
-    (rw (← at-if2.before.is_entered.ensures, at-if2.if2.false, ← l, ← c.before.has_length.ensures, c.if3.false) refl)
+    (rw (← at-if2.is_entered.ensures, at-if2.if-not-is_entered.false-raw, ← l, ← c.has_length.ensures, c.if-not-has_length.false-raw) refl)
 
-pub step-refusal-spec : {M : Type 1} → statement M
-step-refusal-spec =
+pub step_refusal_spec : {M : Type 1} → statement M
+step_refusal_spec =
     tie.close
     (tie.spec
     (λ c κs. search rules)

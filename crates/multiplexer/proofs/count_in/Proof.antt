@@ -7,28 +7,22 @@ use borrow.Author.Rules.{rules}
 use Rattle.multiplexer.proofs.count_in.Statement.{statement}
 use Rattle.multiplexer.proofs.count_in.Tie as tie
 
-add-end : tie.Need-overflow-add-end-frame
+add-end : tie.Need-overflow_add-s
 add-end c =
-    let at_start = c.before.before.before.before.before.before.before.before.before.before in
-    record { fits = omega (arith, (settled at_start.args.s at_start.requires.settled).zone_most) }
+    record { fits = omega (arith, (settled c.args.s c.requires.settled).zone_most) }
 
-returns : tie.Need-returns
+returns : tie.Need-returns-then-m-n
 returns c =
-    let at-end = c.before.before.before in
-    let at_head = at-end.before.before.before.before.before in
-    let at-if1 = at_head.before.before in
-    let at_start = at-if1.before.before.before.before in
     rw c.next_count.ensures
-    (counted_full at_start.args.taken at_start.requires at-if1.if1.true at_head.write_head.ensures.0 at_head.write_head.ensures.1
-    at-end.end_frame.ensures)
+    (counted_full c.args.taken c.requires c.if-m-n.true c.write_head.ensures.0 c.write_head.ensures.1
+    c.end_frame.ensures)
 
-returns-2 : tie.Need-returns-2
+returns-2 : tie.Need-returns
 returns-2 c =
-    let at_start = c.before.before.before.before.before in
-    counted_more at_start.args.taken c.before.if1.false
+    counted_more c.args.taken c.if-m-n.false
 
-pub count-in-spec : {M : Type 1} → statement M
-count-in-spec =
+pub count_in_spec : {M : Type 1} → statement M
+count_in_spec =
     tie.close
     (tie.spec
     (λ c. search rules)

@@ -9,27 +9,27 @@ use borrow.Author.Rules.{rules}
 use Rattle.multiplexer.proofs.idle_refusal.Statement.{statement}
 use Rattle.multiplexer.proofs.idle_refusal.Tie as tie
 
-returns : tie.Need-returns
+returns : tie.Need-returns-then-lent-ne0
 unfolding idle_rows
 returns c =
-    let a = c.before.before.args in
-    lent_refused a.s a.m a.room c.before.lent-refusal.ensures _ c.if1.true
+    let a = c.args in
+    lent_refused a.s a.m a.room c.lent_refusal-lent.ensures _ c.if-lent-ne0.true
 
 -- where no row of every call holds
-lent : (c : tie.Else1) → Lent c.before.before.args.s c.before.before.args.m c.before.before.args.room
-lent c = lent_none _ _ _ c.before.lent-refusal.ensures c.if1.false
+lent : (c : tie.Else-lent-ne0) → Lent c.args.s c.args.m c.args.room
+lent c = lent_none _ _ _ c.lent_refusal-lent.ensures c.if-lent-ne0.false
 
-returns-2 : tie.Need-returns-2
+returns-2 : tie.Need-returns-then-m
 unfolding first idle_rows
 returns-2 c =
     let l = lent c.before.before.before in
-    rw (l.in_ranges, le-ltb _ _ l.enough, l.reachable, c.if2.true) refl
+    rw (l.in_ranges, le-ltb _ _ l.enough, l.reachable, c.if-m.true) refl
 
-returns-3 : tie.Need-returns-3
+returns-3 : tie.Need-returns
 unfolding first idle_rows
 returns-3 c =
     let l = lent c.before.before.before in
-    rw (l.in_ranges, le-ltb _ _ l.enough, l.reachable, c.if2.false) refl
+    rw (l.in_ranges, le-ltb _ _ l.enough, l.reachable, c.if-m.false) refl
 
-pub idle-refusal-spec : {M : Type 1} → statement M
-idle-refusal-spec = tie.close (tie.spec (λ c κs. search rules) returns returns-2 returns-3)
+pub idle_refusal_spec : {M : Type 1} → statement M
+idle_refusal_spec = tie.close (tie.spec (λ c κs. search rules) returns returns-2 returns-3)

@@ -30,25 +30,25 @@ long c =
     let w = passed c in
     idle-length c.args.s.fill (c.args.s.zone - c.args.m.filled) (omega arith)
 
-sub-left : tie.Need-overflow-sub-left
+sub-left : tie.Need-overflow_sub-left
 sub-left c =
     let w = passed c.before.before.before in
     omega arith
 
-add-zone : tie.Need-overflow-add-write-idle
+add-zone : tie.Need-overflow_add-m
 add-zone c =
     let w = passed c.before.before.before.before.before in
     record { fits = omega arith }
 
-count-in-requires : tie.Need-count-in-requires
+count-in-requires : tie.Need-count_in-requires
 count-in-requires c κs =
     let at_now = c.before in
     let at-write = at_now.before.before.before in
     let at_start = at-write.before.before.before.before.before.before in
     let a = at_start.args in
     let w = passed at_start in
-    rw at_now.start_now.ensures
-    (accepted_fills _ _ _ w.0 at-write.write_idle.auto.0 (start_fits a.s w.0.range a.m w.0.passes)
+    rw at_now.start_now-start.ensures
+    (accepted_fills _ _ _ w.0 at-write.write_idle.auto.out (start_fits a.s w.0.range a.m w.0.passes)
     (start_used a.s a.m w.0.passes) (omega arith))
 
 returns : tie.Need-returns
@@ -65,11 +65,11 @@ returns c =
     let whole : a.m.taken + left ≡ left = omega arith in
     let full : a.m.filled + left ≡ a.s.zone = omega arith in
     let answer = at-write.write_idle.ensures.0 ∙ idle_admits a.frame.now (8 + a.m.filled) left (omega arith) (omega arith) (omega (arith, w.0.lent.enough)) in
-    let laid = put_laid a.s a.m left left _ 0 (omega arith) at_now.start_now.ensures (rw (eq-eqb _ _ whole) refl) at_count.count_in.ensures in
+    let laid = put_laid a.s a.m left left _ 0 (omega arith) at_now.start_now-start.ensures (rw (eq-eqb _ _ whole) refl) at_count.count_in.ensures in
     rw (eq-eqb _ _ full, eq-eqb _ _ whole) at (laid (packet at_start) a.frame.now l (omega arith)
     (rw (part_all (packet at_start) a.m.taken _ w.1 l) (rw (eq-eqb _ _ answer) at at-write.write_idle.ensures.1)))
 
-pub lay-idle-packet-spec : {M : Type 1} → statement M
-lay-idle-packet-spec =
+pub lay_idle_packet_spec : {M : Type 1} → statement M
+lay_idle_packet_spec =
     tie.close
     (tie.spec sub-left add-zone (λ c κs. search rules) (λ c κs. search rules) count-in-requires (λ c. search rules) returns)

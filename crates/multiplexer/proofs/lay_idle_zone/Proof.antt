@@ -14,16 +14,16 @@ use Rattle.multiplexer.proofs.lay_idle_zone.Tie as tie
 passed : (c : tie.Start) → Accepted c.args.s c.args.m (length c.args.frame.now) × (c.args.m.filled ≡ 0)
 passed c = idle_passed c.args.s c.args.m (length c.args.frame.now) c.requires
 
-add-fill : tie.Need-overflow-add-fill
+add-fill : tie.Need-overflow_add-m
 add-fill c =
     let w = passed c.before.before.before in
     record { fits = omega arith }
 
-count-in-requires : tie.Need-count-in-requires
+count-in-requires : tie.Need-count_in-requires
 count-in-requires c κs =
     let at_fill_lem = c.before.before.before in
     let w = passed at_fill_lem.before.before.before.before in
-    accepted_fills idle_zone _ _ w.0 at_fill_lem.fill.auto.0 (omega arith) (pointer_beyond _ idle_zone (omega arith)) (omega arith)
+    accepted_fills idle_zone _ _ w.0 at_fill_lem.fill.auto.buf (omega arith) (pointer_beyond _ idle_zone (omega arith)) (omega arith)
 
 returns : tie.Need-returns
 returns c =
@@ -37,5 +37,5 @@ returns c =
     (laid_in a.frame.now w.0 (replicate a.s.zone a.s.fill) (omega arith) at_fill_lem.fill.ensures.left)
     at_count.count_in.ensures
 
-pub lay-idle-zone-spec : {M : Type 1} → statement M
-lay-idle-zone-spec = tie.close (tie.spec add-fill (λ c κs. search rules) count-in-requires (λ c. search rules) returns)
+pub lay_idle_zone_spec : {M : Type 1} → statement M
+lay_idle_zone_spec = tie.close (tie.spec add-fill (λ c κs. search rules) count-in-requires (λ c. search rules) returns)

@@ -15,28 +15,28 @@ use Rattle.multiplexer.proofs.lay_packet.Tie as tie
 passed : (c : tie.Start) → Accepted c.args.s c.args.m (length c.args.frame.now) × (c.args.m.taken ≤ length c.args.p.now)
 passed c = put_passed c.args.s c.args.m c.args.p.now (length c.args.frame.now) c.requires
 
-sub-room : tie.Need-overflow-sub-least
+sub-room : tie.Need-overflow_sub-s
 sub-room c =
     let w = passed c.before.before.before.before in
     omega arith
 
-sub-rest : tie.Need-overflow-sub-least-2
+sub-rest : tie.Need-overflow_sub-p
 sub-rest c = (passed c.before.before.before.before).1
 
-add-zone : tie.Need-overflow-add-lay
+add-zone : tie.Need-overflow_add-m
 add-zone c =
     let w = passed c.before.before.before.before.before.before.before in
     record { fits = omega arith }
 
 -- what is laid stays within the zone and the packet
-within : (c : tie.After-least) →
-    let a = c.before.before.before.before.before.args in
-    (a.m.filled + c.least.result ≤ a.s.zone) × (a.m.taken + c.least.result ≤ length a.p.now)
+within : (c : tie.After-least-n) →
+    let a = c.args in
+    (a.m.filled + c.least-n.result ≤ a.s.zone) × (a.m.taken + c.least-n.result ≤ length a.p.now)
 within c =
     let w = passed c.before.before.before.before.before in
-    (omega (arith, c.least.ensures), omega (arith, c.least.ensures))
+    (omega (arith, c.least-n.ensures), omega (arith, c.least-n.ensures))
 
-packet-laid-requires : tie.Need-packet-laid-requires
+packet-laid-requires : tie.Need-packet_laid-requires
 packet-laid-requires c κs =
     let at-lay = c.before.before.before in
     let at_least_lem = at-lay.before.before.before in
@@ -44,7 +44,7 @@ packet-laid-requires c κs =
     let a = at_start.args in
     let w = (passed at_start).0 in
     let h = within at_least_lem in
-    (accepted_fills _ _ _ w at-lay.lay.auto.0 (start_fits a.s w.range a.m w.passes) (start_used a.s a.m w.passes) h.0, h.1)
+    (accepted_fills _ _ _ w at-lay.lay.auto.buf (start_fits a.s w.range a.m w.passes) (start_used a.s a.m w.passes) h.0, h.1)
 
 returns : tie.Need-returns
 unfolding fits_now
@@ -55,11 +55,11 @@ returns c =
     let at_start = at_least_lem.before.before.before.before.before in
     let a = at_start.args in
     let h = within at_least_lem in
-    at-answer.packet_laid.ensures a.p.now a.frame.now refl at_least_lem.least.ensures
+    at-answer.packet_laid.ensures a.p.now a.frame.now refl at_least_lem.least-n.ensures
     (part_laid_in a.frame.now (passed at_start).0 a.p.now a.m.taken _ h.1 h.0 at-lay.lay.ensures.left)
 
-pub lay-packet-spec : {M : Type 1} → statement M
-lay-packet-spec =
+pub lay_packet_spec : {M : Type 1} → statement M
+lay_packet_spec =
     tie.close
     (tie.spec
     sub-room

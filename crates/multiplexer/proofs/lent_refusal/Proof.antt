@@ -6,46 +6,41 @@ use borrow.Author.Rules.{rules}
 use Rattle.multiplexer.proofs.lent_refusal.Statement.{statement}
 use Rattle.multiplexer.proofs.lent_refusal.Tie as tie
 
-returns : tie.Need-returns
+returns : tie.Need-returns-then-not-in_range
 unfolding first
-returns c = rw (← c.before.in_range.ensures, c.if1.true) refl
+returns c = rw (← c.in_range.ensures, c.if-not-in_range.true-raw) refl
 
-returns-2 : tie.Need-returns-2
+returns-2 : tie.Need-returns-then-is_short
 unfolding first
 returns-2 c =
-    let at-if1 = c.before.before in
-    rw (← at-if1.before.in_range.ensures, at-if1.if1.false, ← c.before.is_short.ensures, c.if2.true) refl
+    rw (← c.in_range.ensures, c.if-not-in_range.false-raw, ← c.is_short.ensures, c.if-is_short.true) refl
 
-returns-3 : tie.Need-returns-3
+returns-3 : tie.Need-returns-then-not-mux_reachable
 unfolding first
 returns-3 c =
-    let at-if2 = c.before.before in
-    let at-if1 = at-if2.before.before in
     rw (
-      ← at-if1.before.in_range.ensures,
-      at-if1.if1.false,
-      ← at-if2.before.is_short.ensures,
-      at-if2.if2.false,
-      ← c.before.mux_reachable.ensures,
-      c.if3.true,
+      ← c.in_range.ensures,
+      c.if-not-in_range.false-raw,
+      ← c.is_short.ensures,
+      c.if-is_short.false,
+      ← c.mux_reachable.ensures,
+      c.if-not-mux_reachable.true-raw,
     ) refl
 
-returns-4 : tie.Need-returns-4
+returns-4 : tie.Need-returns
 unfolding first
 returns-4 c =
-    let at-if2 = c.before.before in
-    let at-if1 = at-if2.before.before in
     rw (
-      ← at-if1.before.in_range.ensures,
-      at-if1.if1.false,
-      ← at-if2.before.is_short.ensures,
-      at-if2.if2.false,
-      ← c.before.mux_reachable.ensures,
-      c.if3.false,
+      ← c.in_range.ensures,
+      c.if-not-in_range.false-raw,
+      ← c.is_short.ensures,
+      c.if-is_short.false,
+      ← c.mux_reachable.ensures,
+      c.if-not-mux_reachable.false-raw,
     ) refl
 
-pub lent-refusal-spec : {M : Type 1} → statement M
-lent-refusal-spec =
+pub lent_refusal_spec : {M : Type 1} → statement M
+lent_refusal_spec =
     tie.close
     (tie.spec
     (λ c κs. search rules)

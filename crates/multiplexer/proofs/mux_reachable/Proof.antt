@@ -7,17 +7,15 @@ use Rattle.multiplexer.specs.Multiplex.{mux_reachable}
 use Rattle.multiplexer.proofs.mux_reachable.Statement.{statement}
 use Rattle.multiplexer.proofs.mux_reachable.Tie as tie
 
-returns : tie.Need-returns
+returns : tie.Need-returns-then-m-eq0
 unfolding mux_reachable
 returns c =
-    let at-if1 = c.before.before.before.before in
-    rw (← at-if1.before.before.before.wheel_of.ensures, eq-eqb _ _ at-if1.if1.true) refl
+    rw (← c.wheel_of.ensures, eq-eqb _ _ c.if-m-eq0.true) refl
 
-returns-2 : tie.Need-returns-2
+returns-2 : tie.Need-returns
 unfolding mux_reachable
 returns-2 c =
-    let at-if1 = c.before.before.before.before in
-    rw (← at-if1.before.before.before.wheel_of.ensures, ne_eqb _ _ at-if1.if1.false) refl
+    rw (← c.wheel_of.ensures, ne_eqb _ _ c.if-m-eq0.false) refl
 
-pub mux-reachable-spec : {M : Type 1} → statement M
-mux-reachable-spec = tie.close (tie.spec (λ c κs. search rules) returns returns-2)
+pub mux_reachable_spec : {M : Type 1} → statement M
+mux_reachable_spec = tie.close (tie.spec (λ c κs. search rules) returns returns-2)

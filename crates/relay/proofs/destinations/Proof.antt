@@ -34,12 +34,12 @@ loop-again c =
     let room : c.loop-i.count < length c.loop-i.list = omega (arith, few) in
     ⊎_elim
     (λ w.
-    let found = found_at a.apid es c.loop-i.list c.loop-i.count i here inv.1.1 w.0.taken room in
-    rw (w.1, w.2) ((omega arith, omega arith), (simp length-set inv.1.0, found)))
+    let found = found_at a.apid es c.loop-i.list c.loop-i.count i here inv.1.1 w.if-e-apid.true room in
+    rw (w.list-is, w.count-is) ((omega arith, omega arith), (simp length-set inv.1.0, found)))
     (λ w.
-    let passed = passed_at a.apid es c.loop-i.list c.loop-i.count i here inv.1.1 w.0.left in
-    rw (w.1, w.2) ((omega arith, omega arith), (inv.1.0, passed)))
-    c.if-e-apid.branch
+    let passed = passed_at a.apid es c.loop-i.list c.loop-i.count i here inv.1.1 w.if-e-apid.false in
+    rw (w.list-is, w.count-is) ((omega arith, omega arith), (inv.1.0, passed)))
+    c.if-e-apid.branch-raw
 
 returns : tie.Need-returns invariant-loop-i decreases-loop-i
 returns c =

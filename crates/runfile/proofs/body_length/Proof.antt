@@ -11,49 +11,48 @@ use Rattle.runfile.proofs.Unreached.{unreached_are_bad}
 use Rattle.runfile.proofs.body_length.Statement.{statement}
 use Rattle.runfile.proofs.body_length.Tie as tie
 
-returns : tie.Need-returns
+returns : tie.Need-returns-then-not-reachable
 returns c =
-    sym ((unreached_are_bad _ (sym c.before.reachable.ensures ∙ not-true _ c.if1.true)).no_body _)
+    sym ((unreached_are_bad _ (sym c.reachable.ensures ∙ not-true _ c.if-not-reachable.true-raw)).no_body _)
 
 -- between frames the test has passed
-running : (c : tie.After-p) → reachable (Running c.p.given.0.0 c.p.given.0.1.0) ≡ true
+running : (c : tie.In-Running) → reachable (Running c.in-Running.settings c.in-Running.count) ≡ true
 running c =
-    let at-if = c.before.before in
-    rw c.p.given.1 at (sym at-if.before.reachable.ensures ∙ not-false _ at-if.if1.false)
+    rw c.in-Running.is at (sym c.reachable.ensures ∙ not-false _ c.if-not-reachable.false-raw)
 
-frame-length-requires : tie.Need-frame-length-requires
-frame-length-requires c κs = (standing _ _ (running c.before.before)).settings_fit
+frame-length-requires : tie.Need-frame_length-requires
+frame-length-requires c κs = (standing _ _ (running c.before)).settings_fit
 
-returns-2 : tie.Need-returns-2
+returns-2 : tie.Need-returns-then-kind-eq-SETUP
 unfolding body_length
-returns-2 c = rw (c.before.enum_told.given.1, eq-eqb _ _ c.if2.true) refl
+returns-2 c = rw (c.in-Start.is, eq-eqb _ _ c.if-kind-eq-SETUP.true) refl
 
-returns-3 : tie.Need-returns-3
+returns-3 : tie.Need-returns-else-kind-eq-SETUP
 unfolding body_length
-returns-3 c = rw (c.before.enum_told.given.1, ne_eqb _ _ c.if2.false) refl
+returns-3 c = rw (c.in-Start.is, ne_eqb _ _ c.if-kind-eq-SETUP.false) refl
 
-returns-4 : tie.Need-returns-4
+returns-4 : tie.Need-returns-then-kind-count
 unfolding body_length
 returns-4 c =
-    let at_p = c.before.before.before in
-    rw (at_p.p.given.1, running at_p, c.before.if3.true) c.frame_length.ensures
+    let at_p = c.before.before in
+    rw (at_p.in-Running.is, running at_p, c.if-kind-count.true) c.frame_length.ensures
 
-returns-5 : tie.Need-returns-5
+returns-5 : tie.Need-returns-else-kind-count
 unfolding body_length
 returns-5 c =
-    let at_p = c.before.before in
-    rw (at_p.p.given.1, running at_p, c.if3.false) refl
+    let at_p = c.before in
+    rw (at_p.in-Running.is, running at_p, c.if-kind-count.false) refl
 
-returns-6 : tie.Need-returns-6
+returns-6 : tie.Need-returns-in-Ended
 unfolding body_length
-returns-6 c = rw c.enum-told2.given.1 refl
+returns-6 c = rw c.in-Ended.is refl
 
-returns-7 : tie.Need-returns-7
+returns-7 : tie.Need-returns-in-Bad
 unfolding body_length
-returns-7 c = rw c.enum-told3.given.1 refl
+returns-7 c = rw c.in-Bad.is refl
 
-pub body-length-spec : {M : Type 1} → statement M
-body-length-spec =
+pub body_length_spec : {M : Type 1} → statement M
+body_length_spec =
     tie.close
     (tie.spec
     (λ c κs. search rules)

@@ -8,29 +8,28 @@ use Rattle.runfile.proofs.Unreached.{unreached_are_bad}
 use Rattle.runfile.proofs.close.Statement.{statement}
 use Rattle.runfile.proofs.close.Tie as tie
 
-returns : tie.Need-returns
+returns : tie.Need-returns-then-not-reachable
 returns c =
-    let passes = c.before.before.reachable in
-    c.bad.ensures ∙ sym (unreached_are_bad _ (sym passes.ensures ∙ not-true _ c.before.if1.true)).not_closed
+    let passes = c.reachable in
+    c.bad.ensures ∙ sym (unreached_are_bad _ (sym passes.ensures ∙ not-true _ c.if-not-reachable.true-raw)).not_closed
 
-returns-2 : tie.Need-returns-2
+returns-2 : tie.Need-returns-in-Start
 unfolding closed
-returns-2 c = rw c.before.enum_told.given.1 (rw c.before.enum_told.given.1 at c.bad2.ensures)
+returns-2 c = rw c.in-Start.is (rw c.in-Start.is at c.bad-in-Start.ensures)
 
-returns-3 : tie.Need-returns-3
+returns-3 : tie.Need-returns-in-Running
 unfolding closed
-returns-3 c = rw c.before.enum-told2.given.1 (rw c.before.enum-told2.given.1 at c.bad3.ensures)
+returns-3 c = rw c.in-Running.is (rw c.in-Running.is at c.bad-in-Running.ensures)
 
-returns-4 : tie.Need-returns-4
+returns-4 : tie.Need-returns-in-Ended
 unfolding closed
 returns-4 c =
-    let at-if = c.before.before in
-    let told = c.enum-told3.given.1 in
-    rw (told, rw told at (sym at-if.before.reachable.ensures ∙ not-false _ at-if.if1.false)) refl
+    let told = c.in-Ended.is in
+    rw (told, rw told at (sym c.reachable.ensures ∙ not-false _ c.if-not-reachable.false-raw)) refl
 
-returns-5 : tie.Need-returns-5
+returns-5 : tie.Need-returns-in-Bad
 unfolding closed
-returns-5 c = rw c.before.enum-told4.given.1 (rw c.before.enum-told4.given.1 at c.bad4.ensures)
+returns-5 c = rw c.in-Bad.is (rw c.in-Bad.is at c.bad-in-Bad.ensures)
 
 pub close_spec : {M : Type 1} → statement M
 close_spec =

@@ -7,7 +7,7 @@ use Rattle.runfile.proofs.fits.Tie as tie
 
 returns : tie.Need-returns
 unfolding fits
-returns c = rw (c.is_plain.ensures, c.before.before.in_range.ensures)
+returns c = rw (c.is_plain.ensures, c.in_range.ensures)
 
-pub fits-spec : {M : Type 1} → statement M
-fits-spec = tie.close (tie.spec (λ c κs. search rules) (λ c κs. search rules) returns)
+pub fits_spec : {M : Type 1} → statement M
+fits_spec = tie.close (tie.spec (λ c κs. search rules) (λ c κs. search rules) returns)

@@ -6,11 +6,11 @@ use Rattle.runfile.proofs.Bounds.{fitting, frame_plain}
 use Rattle.runfile.proofs.frame_length.Statement.{statement}
 use Rattle.runfile.proofs.frame_length.Tie as tie
 
-add-result : tie.Need-overflow-add-result
-add-result c = record { fits = omega (arith, (fitting c.before.args.s c.before.requires).in_numbers.zone_most) }
+add-result : tie.Need-overflow_add-result
+add-result c = record { fits = omega (arith, (fitting c.args.s c.requires).in_numbers.zone_most) }
 
 returns : tie.Need-returns
-returns c = sym (frame_plain c.before.args.s c.before.requires)
+returns c = sym (frame_plain c.args.s c.requires)
 
-pub frame-length-spec : {M : Type 1} → statement M
-frame-length-spec = tie.close (tie.spec add-result returns)
+pub frame_length_spec : {M : Type 1} → statement M
+frame_length_spec = tie.close (tie.spec add-result returns)

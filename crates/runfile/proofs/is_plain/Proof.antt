@@ -5,17 +5,17 @@ use Rattle.runfile.specs.RunFile.{plain}
 use Rattle.runfile.proofs.is_plain.Statement.{statement}
 use Rattle.runfile.proofs.is_plain.Tie as tie
 
-returns : tie.Need-returns
+returns : tie.Need-returns-in-Former
 unfolding plain
-returns c = rw c.before.enum_told.given.1
+returns c = rw c.in-Former.is
 
-returns-2 : tie.Need-returns-2
+returns-2 : tie.Need-returns-in-CycleUnused
 unfolding plain
-returns-2 c = rw c.enum-told2.given.1
+returns-2 c = rw c.in-CycleUnused.is
 
-returns-3 : tie.Need-returns-3
+returns-3 : tie.Need-returns-in-CycleUsed
 unfolding plain
-returns-3 c = rw c.enum-told3.given.1
+returns-3 c = rw c.in-CycleUsed.is
 
-pub is-plain-spec : {M : Type 1} → statement M
-is-plain-spec = tie.close (tie.spec (λ c. search rules) (λ c. search rules) (λ c. search rules) returns returns-2 returns-3)
+pub is_plain_spec : {M : Type 1} → statement M
+is_plain_spec = tie.close (tie.spec (λ c. search rules) (λ c. search rules) (λ c. search rules) returns returns-2 returns-3)

@@ -6,24 +6,24 @@ use Rattle.runfile.specs.Steps.{next_record}
 use Rattle.runfile.proofs.next_record.Statement.{statement}
 use Rattle.runfile.proofs.next_record.Tie as tie
 
-returns : tie.Need-returns
+returns : tie.Need-returns-in-Start
 unfolding next_record
-returns c = rw c.enum_told.given.1 refl
+returns c = rw c.in-Start.is refl
 
-returns-2 : tie.Need-returns-2
+returns-2 : tie.Need-returns-in-Running
 unfolding next_record
-returns-2 c = rw c.before.p.given.1 refl
+returns-2 c = rw c.in-Running.is refl
 
-returns-3 : tie.Need-returns-3
+returns-3 : tie.Need-returns-in-Ended
 unfolding next_record
-returns-3 c = rw c.before.p2.given.1 refl
+returns-3 c = rw c.in-Ended.is refl
 
-returns-4 : tie.Need-returns-4
+returns-4 : tie.Need-returns-in-Bad
 unfolding next_record
-returns-4 c = rw c.before.p3.given.1 refl
+returns-4 c = rw c.in-Bad.is refl
 
-pub next-record-spec : {M : Type 1} → statement M
-next-record-spec =
+pub next_record_spec : {M : Type 1} → statement M
+next_record_spec =
     tie.close
     (tie.spec
     (λ c. search rules)

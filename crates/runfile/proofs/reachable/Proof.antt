@@ -6,24 +6,24 @@ use Rattle.runfile.specs.Steps.{reachable}
 use Rattle.runfile.proofs.reachable.Statement.{statement}
 use Rattle.runfile.proofs.reachable.Tie as tie
 
-returns : tie.Need-returns
+returns : tie.Need-returns-in-Start
 unfolding reachable
-returns c = rw c.enum_told.given.1 refl
+returns c = rw c.in-Start.is refl
 
-returns-2 : tie.Need-returns-2
+returns-2 : tie.Need-returns-in-Running
 unfolding reachable
-returns-2 c = rw (c.before.before.before.p.given.1, c.before.fits2.ensures) refl
+returns-2 c = rw (c.in-Running.is, c.fits.ensures) refl
 
-returns-3 : tie.Need-returns-3
+returns-3 : tie.Need-returns-in-Ended
 unfolding reachable
-returns-3 c = rw c.before.p2.given.1 refl
+returns-3 c = rw c.in-Ended.is refl
 
-returns-4 : tie.Need-returns-4
+returns-4 : tie.Need-returns-in-Bad
 unfolding reachable
-returns-4 c = rw c.before.p3.given.1 refl
+returns-4 c = rw c.in-Bad.is refl
 
-pub reachable-spec : {M : Type 1} → statement M
-reachable-spec =
+pub reachable_spec : {M : Type 1} → statement M
+reachable_spec =
     tie.close
     (tie.spec
     (λ c. search rules)

@@ -8,12 +8,11 @@ use Rattle.runfile.proofs.setup_of.Tie as tie
 returns : tie.Need-returns
 unfolding setup_of
 returns c =
-    let at-channel = c.before.before in
     rw
-    (c.number3.ensures, c.before.number2.ensures, at-channel.octet2.ensures, at-channel.before.octet.ensures)
+    (c.number3.ensures, c.number2.ensures, c.octet-2.ensures, c.octet.ensures)
 
-pub setup-of-spec : {M : Type 1} → statement M
-setup-of-spec =
+pub setup_of_spec : {M : Type 1} → statement M
+setup_of_spec =
     tie.close
     (tie.spec
     (λ c κs. search rules)

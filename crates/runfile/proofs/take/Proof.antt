@@ -8,29 +8,28 @@ use Rattle.runfile.proofs.Unreached.{unreached_are_bad}
 use Rattle.runfile.proofs.take.Statement.{statement}
 use Rattle.runfile.proofs.take.Tie as tie
 
-returns : tie.Need-returns
+returns : tie.Need-returns-then-not-reachable
 returns c =
-    let passes = c.before.before.reachable in
-    c.bad.ensures ∙ sym ((unreached_are_bad _ (sym passes.ensures ∙ not-true _ c.before.if1.true)).not_taken _ _)
+    let passes = c.reachable in
+    c.bad.ensures ∙ sym ((unreached_are_bad _ (sym passes.ensures ∙ not-true _ c.if-not-reachable.true-raw)).not_taken _ _)
 
-take-next-requires : tie.Need-take-next-requires
+take-next-requires : tie.Need-take_next-requires
 take-next-requires c κs =
-    let at-if = c.before.before.before in
-    rw c.before.p.given.1 at (sym at-if.before.reachable.ensures ∙ not-false _ at-if.if1.false)
+    rw c.in-Running.is at (sym c.reachable.ensures ∙ not-false _ c.if-not-reachable.false-raw)
 
-returns-2 : tie.Need-returns-2
-returns-2 c = rw c.before.enum_told.given.1 c.take-setup.ensures
+returns-2 : tie.Need-returns-in-Start
+returns-2 c = rw c.in-Start.is c.take_setup.ensures
 
-returns-3 : tie.Need-returns-3
-returns-3 c = rw c.before.before.p.given.1 c.take_next.ensures
+returns-3 : tie.Need-returns-in-Running
+returns-3 c = rw c.in-Running.is c.take_next.ensures
 
-returns-4 : tie.Need-returns-4
+returns-4 : tie.Need-returns-in-Ended
 unfolding taken
-returns-4 c = rw c.before.enum-told2.given.1 (rw c.before.enum-told2.given.1 at c.bad2.ensures)
+returns-4 c = rw c.in-Ended.is (rw c.in-Ended.is at c.bad-in-Ended.ensures)
 
-returns-5 : tie.Need-returns-5
+returns-5 : tie.Need-returns-in-Bad
 unfolding taken
-returns-5 c = rw c.before.enum-told3.given.1 (rw c.before.enum-told3.given.1 at c.bad3.ensures)
+returns-5 c = rw c.in-Bad.is (rw c.in-Bad.is at c.bad-in-Bad.ensures)
 
 pub take_spec : {M : Type 1} → statement M
 take_spec =

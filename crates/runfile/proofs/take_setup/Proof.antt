@@ -6,15 +6,14 @@ use Rattle.runfile.specs.Steps.{taken}
 use Rattle.runfile.proofs.take_setup.Statement.{statement}
 use Rattle.runfile.proofs.take_setup.Tie as tie
 
-returns : tie.Need-returns
+returns : tie.Need-returns-then-kind-body
 unfolding taken
-returns c = rw (← c.before.before.setup_of.ensures, ← c.before.fits2.ensures, c.if1.true) refl
+returns c = rw (← c.setup_of-settings.ensures, ← c.fits.ensures, c.if-kind-body.true) refl
 
-returns-2 : tie.Need-returns-2
+returns-2 : tie.Need-returns-else-kind-body
 unfolding taken
 returns-2 c =
-    let e = c.before.before in
-    rw (← e.before.setup_of.ensures, ← e.fits2.ensures, c.before.if1.false) c.bad.ensures
+    rw (← c.setup_of-settings.ensures, ← c.fits.ensures, c.if-kind-body.false) c.bad.ensures
 
-pub take-setup-spec : {M : Type 1} → statement M
-take-setup-spec = tie.close (tie.spec (λ c κs. search rules) (λ c κs. search rules) (λ c κs. search rules) returns returns-2)
+pub take_setup_spec : {M : Type 1} → statement M
+take_setup_spec = tie.close (tie.spec (λ c κs. search rules) (λ c κs. search rules) (λ c κs. search rules) returns returns-2)

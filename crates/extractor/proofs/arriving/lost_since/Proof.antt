@@ -33,21 +33,20 @@ counted (InStep last h) t = refl
 counted (Walking last h at) t = refl
 counted (Leaving last) t = refl
 
-returns : tie.Need-returns
+returns : tie.Need-returns-in-Fresh
 unfolding lost_since
-returns c = rw c.enum_told.given.1 refl
+returns c = rw c.in-Fresh.is refl
 
-returns-2 : tie.Need-returns-2
+returns-2 : tie.Need-returns-in_default
 unfolding lost_since
 returns-2 c =
-    let at-match = c.before.before in
-    let a = at-match.before.args in
+    let a = c.args in
     c.missing.ensures
-    ∙ ap (λ (last : ℕ). missing (count_width a.s.link) last a.count) c.before.last_in.ensures
-    ∙ ap (λ (last : Option ℕ). lost_since a.s last a.count) (counted a.x at-match.match.keys2)
+    ∙ ap (λ (last : ℕ). missing (count_width a.s.link) last a.count) c.last_in.ensures
+    ∙ ap (λ (last : Option ℕ). lost_since a.s last a.count) (counted a.x c.in_default.in_default-own.keys2)
 
-pub lost-since-spec : {M : Type 1} → statement M
-lost-since-spec =
+pub lost_since_spec : {M : Type 1} → statement M
+lost_since_spec =
     tie.close
     (tie.spec
     (λ c. search rules)

@@ -6,24 +6,24 @@ use Rattle.extractor.specs.Records.{set_off}
 use Rattle.extractor.proofs.arriving.set_off.Statement.{statement}
 use Rattle.extractor.proofs.arriving.set_off.Tie as tie
 
-returns : tie.Need-returns
+returns : tie.Need-returns-then-pointer-eq-IDLE_ZONE
 unfolding set_off
-returns c = rw (eq-eqb _ _ c.if1.true) refl
+returns c = rw (eq-eqb _ _ c.if-pointer-eq-IDLE_ZONE.true) refl
 
-returns-2 : tie.Need-returns-2
+returns-2 : tie.Need-returns-then-in_step
 unfolding set_off
-returns-2 c = rw (ne_eqb _ _ c.before.if1.false, c.if2.true) refl
+returns-2 c = rw (ne_eqb _ _ c.if-pointer-eq-IDLE_ZONE.false, c.if-in_step.true) refl
 
-returns-3 : tie.Need-returns-3
+returns-3 : tie.Need-returns-then-pointer-eq-NO_START
 unfolding set_off
-returns-3 c = rw (ne_eqb _ _ c.before.before.if1.false, c.before.if2.false, eq-eqb _ _ c.if3.true) refl
+returns-3 c = rw (ne_eqb _ _ c.if-pointer-eq-IDLE_ZONE.false, c.if-in_step.false, eq-eqb _ _ c.if-pointer-eq-NO_START.true) refl
 
-returns-4 : tie.Need-returns-4
+returns-4 : tie.Need-returns
 unfolding set_off
-returns-4 c = rw (ne_eqb _ _ c.before.before.if1.false, c.before.if2.false, ne_eqb _ _ c.if3.false) refl
+returns-4 c = rw (ne_eqb _ _ c.if-pointer-eq-IDLE_ZONE.false, c.if-in_step.false, ne_eqb _ _ c.if-pointer-eq-NO_START.false) refl
 
-pub set-off-spec : {M : Type 1} → statement M
-set-off-spec =
+pub set_off_spec : {M : Type 1} → statement M
+set_off_spec =
     tie.close
     (tie.spec
     returns

@@ -57,44 +57,35 @@ module _ (s : Settings) (x : Extractor) (h : Heading) (store f : List ℕ) (admi
     lost-all some named set =
         all_dropped arrived _ _ _ _ _ _ counts (ap (λ (g : Heading). g.replay) heads) points missed reasoned named dropped next held some set
 
-reason-of-requires : tie.Need-reason-of-requires
+reason-of-requires : tie.Need-reason_of-reason-requires
 reason-of-requires c κs =
-    let start = c.before.before.before.before in
-    let a = start.args in
-    let admits = start.requires.0 in
-    let says = start.requires.1.0 in
+    let a = c.args in
+    let admits = c.requires.0 in
+    let says = c.requires.1.0 in
     let counted = counts a.s a.x a.heading a.store.now a.frame.now admits says in
     let pointed = points a.s a.x a.heading a.store.now a.frame.now admits says in
-    (admits, (c.lost_since.ensures ∙ ap (lost_since a.s (last_count a.x)) counted, (pointed, start.requires.1.1)))
+    (admits, (c.lost_since-lost.ensures ∙ ap (lost_since a.s (last_count a.x)) counted, (pointed, c.requires.1.1)))
 
-returns : tie.Need-returns
+returns : tie.Need-returns-then-reason-eq-KEPT
 returns c =
-    let at_held = c.before.before.before in
-    let at-reason = at_held.before in
-    let start = at-reason.before.before.before.before.before in
-    let a = start.args in
-    kept a.s a.x a.heading a.store.now a.frame.now start.requires.0 start.requires.1.0
-    at-reason.before.lost_since.ensures at-reason.reason_of.ensures at_held.held_in.ensures
-    c.before.before.if1.true c.before.is_in_step.ensures c.set_off.ensures
+    let a = c.args in
+    kept a.s a.x a.heading a.store.now a.frame.now c.requires.0 c.requires.1.0
+    c.lost_since-lost.ensures c.reason_of-reason.ensures c.held_in-held.ensures
+    c.if-reason-eq-KEPT.true c.is_in_step.ensures c.set_off.ensures
 
-returns-2 : tie.Need-returns-2
+returns-2 : tie.Need-returns
 returns-2 c =
-    let at_held = c.before.before.before in
-    let at-reason = at_held.before in
-    let start = at-reason.before.before.before.before.before in
-    let a = start.args in
-    lost-all a.s a.x a.heading a.store.now a.frame.now start.requires.0 start.requires.1.0
-    at-reason.before.lost_since.ensures at-reason.reason_of.ensures at_held.held_in.ensures
-    c.before.before.if1.false c.before.damage_of.ensures c.set-off2.ensures
+    let a = c.args in
+    lost-all a.s a.x a.heading a.store.now a.frame.now c.requires.0 c.requires.1.0
+    c.lost_since-lost.ensures c.reason_of-reason.ensures c.held_in-held.ensures
+    c.if-reason-eq-KEPT.false c.damage_of.ensures c.set_off-2.ensures
 
-damage-of-requires : tie.Need-damage-of-requires
+damage-of-requires : tie.Need-damage_of-requires
 damage-of-requires c κs =
-    let at-reason = c.before.before in
-    let start = at-reason.before.before.before.before.before in
-    (start.requires.0, (start.requires.1.1, at-reason.reason_of.ensures))
+    (c.requires.0, (c.requires.1.1, c.reason_of-reason.ensures))
 
-pub taken-spec : {M : Type 1} → statement M
-taken-spec =
+pub taken_spec : {M : Type 1} → statement M
+taken_spec =
     tie.close
     (tie.spec
     (λ c. search rules)

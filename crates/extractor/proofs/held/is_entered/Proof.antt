@@ -5,9 +5,9 @@ use Rattle.extractor.specs.Records.{is_entered}
 use Rattle.extractor.proofs.held.is_entered.Statement.{statement}
 use Rattle.extractor.proofs.held.is_entered.Tie as tie
 
-pub is-entered-spec : {M : Type 1} → statement M
+pub is_entered_spec : {M : Type 1} → statement M
 unfolding is_entered
-is-entered-spec =
+is_entered_spec =
     tie.close
     (tie.spec (λ c. search rules) (λ c. search rules) (λ c. search rules) (λ c. search rules) (λ c. search rules)
     (λ c. cc) (λ c. cc) (λ c. cc) (λ c. cc) (λ c. cc))

@@ -14,41 +14,37 @@ use Rattle.extractor.proofs.held.length_across.Statement.{statement}
 use Rattle.extractor.proofs.held.length_across.Tie as tie
 
 -- fewer than eight are held, where their header is not whole
-start-of-requires : tie.Need-start-of-requires
+start-of-requires : tie.Need-start_of-start-requires
 unfolding seen
 start-of-requires c κs =
-    let at_start = c.before.before.before.before in
-    let a = at_start.args in
+    let a = c.args in
     let few : length (take a.held a.store.now) < 8 =
-    more_short a.limit (take a.held a.store.now) at_start.requires.0.0 (sym at_start.requires.1.1 ∙ ap seen c.enum_told.given.1) in
-    let held : length (take a.held a.store.now) ≡ a.held = length-take-le _ _ at_start.requires.0.1 in
-    ((omega arith, at_start.requires.0.1), at_start.requires.1.0)
+    more_short a.limit (take a.held a.store.now) c.requires.0.0 (sym c.requires.1.1 ∙ ap seen c.in-More.is) in
+    let held : length (take a.held a.store.now) ≡ a.held = length-take-le _ _ c.requires.0.1 in
+    ((omega arith, c.requires.0.1), c.requires.1.0)
 
 -- the octets are within the buffer
-within : (c : tie.After-start-of) → c.start_of_lem.result.n ≤ length c.start_of_lem.result.front
+within : (c : tie.After-start_of-start) → c.start_of-start.result.n ≤ length c.start_of-start.result.front
 within c =
-    let l : length c.start_of_lem.result.front ≡ 8 = search rules in
+    let l : length c.start_of-start.result.front ≡ 8 = search rules in
     omega arith
 
-returns : tie.Need-returns
+returns : tie.Need-returns-in-Damaged
 unfolding seen
 returns c =
-    let at_start = c.before.before.before.before.before in
-    sym (damaged-append at_start.args.limit _ _ at_start.requires.0.0 (sym at_start.requires.1.1 ∙ ap seen c.before.stated.given.1))
+    sym (damaged-append c.args.limit _ _ c.requires.0.0 (sym c.requires.1.1 ∙ ap seen c.in-Damaged.is))
 
-returns-2 : tie.Need-returns-2
+returns-2 : tie.Need-returns-in-Whole
 unfolding seen
 returns-2 c =
-    let at_start = c.before.before.before.before.before in
-    sym (look-append at_start.args.limit _ _ at_start.requires.0.0 (sym at_start.requires.1.1 ∙ ap seen c.before.stated2.given.1))
+    sym (look-append c.args.limit _ _ c.requires.0.0 (sym c.requires.1.1 ∙ ap seen c.in-Whole.is))
 
-returns-3 : tie.Need-returns-3
+returns-3 : tie.Need-returns-in-More
 returns-3 c =
-    let at_start = c.before.before.before.before.before.before.before.before in
-    c.read_length.ensures ∙ ap (look at_start.args.limit) c.before.before.before.start_of_lem.ensures.0 ∙ look_front at_start.args.limit _ at_start.requires.0.0
+    c.read_length.ensures ∙ ap (look c.args.limit) c.start_of-start.ensures.0 ∙ look_front c.args.limit _ c.requires.0.0
 
-pub length-across-spec : {M : Type 1} → statement M
-length-across-spec =
+pub length_across_spec : {M : Type 1} → statement M
+length_across_spec =
     tie.close
     (tie.spec
     (λ c. search rules)

@@ -20,24 +20,24 @@ its-test : (c : tie.After-reachable) (store : List ℕ) → Says (start c).args.
     → reachable (start c).args.s store (start c).args.x ≡ c.reachable.result
 its-test c store says =
     let a = (start c).args in
-    let says' = subst (λ (h : ℕ). Says a.s store h a.stated) (sym c.before.before.held_in.ensures) says in
-    reached_by a.s store a.x c.before.before.before.last_in.ensures c.before.before.held_in.ensures c.before.at_in.ensures
+    let says' = subst (λ (h : ℕ). Says a.s store h a.stated) (sym c.held_in.ensures) says in
+    reached_by a.s store a.x c.last_in.ensures c.held_in.ensures c.at_in.ensures
     (c.reachable.ensures store says')
 
-returns : tie.Need-returns
+returns : tie.Need-returns-then-room-s
 unfolding first
-returns c store r says = rw (← r, lt-ltb _ _ c.if1.true) refl
+returns c store r says = rw (← r, lt-ltb _ _ c.if-room-s.true) refl
 
-returns-2 : tie.Need-returns-2
+returns-2 : tie.Need-returns-then-not-reachable
 unfolding first
-returns-2 c store r says = rw (its-test c.before store says, ← r, le-ltb _ _ c.before.before.before.before.before.if1.false, c.if2.true) refl
+returns-2 c store r says = rw (its-test c.before store says, ← r, le-ltb _ _ c.if-room-s.false, c.if-not-reachable.true-raw) refl
 
-returns-3 : tie.Need-returns-3
+returns-3 : tie.Need-returns
 unfolding first
-returns-3 c store r says = rw (its-test c.before store says, ← r, le-ltb _ _ c.before.before.before.before.before.if1.false, c.if2.false) refl
+returns-3 c store r says = rw (its-test c.before store says, ← r, le-ltb _ _ c.if-room-s.false, c.if-not-reachable.false-raw) refl
 
-pub refusal-spec : {M : Type 1} → statement M
-refusal-spec =
+pub refusal_spec : {M : Type 1} → statement M
+refusal_spec =
     tie.close
     (tie.spec
     returns

@@ -9,16 +9,15 @@ use Rattle.extractor.proofs.held.start_of.Tie as tie
 
 returns : tie.Need-returns
 returns c =
-    let at_least_lem = c.before.before.before.before.before.before in
-    let a = at_least_lem.before.before.before.args in (
-      started _ a.store.now a.frame.now _ _ a.held a.from a.to a.held at_least_lem.least.result
+    let a = c.args in (
+      started _ a.store.now a.frame.now _ _ a.held a.from a.to a.held c.least-more.result
           refl (omega arith) (omega arith) (omega arith) (omega arith) (omega arith)
-          c.before.before.before.before.lay.ensures.left c.before.lay2.ensures.left,
+          c.lay.ensures.left c.lay-2.ensures.left,
       omega arith,
     )
 
-pub start-of-spec : {M : Type 1} → statement M
-start-of-spec =
+pub start_of_spec : {M : Type 1} → statement M
+start_of_spec =
     tie.close
     (tie.spec
     (λ c. search rules)

@@ -12,26 +12,25 @@ use borrow.Author.Rules.{rules}
 use Rattle.extractor.proofs.held.stated.Statement.{statement}
 use Rattle.extractor.proofs.held.stated.Tie as tie
 
-returns : tie.Need-returns
+returns : tie.Need-returns-then-held-eq0
 unfolding held_look seen look
 returns c =
-    rw (← c.before.held_in.ensures, c.if1.true, le-leb 0 (length c.before.before.before.args.store.now) (omega arith)) refl
+    rw (← c.held_in-held.ensures, c.if-held-eq0.true, le-leb 0 (length c.args.store.now) (omega arith)) refl
 
-returns-2 : tie.Need-returns-2
+returns-2 : tie.Need-returns-then-store-held
 unfolding held_look seen
-returns-2 c = rw (← c.before.before.held_in.ensures, lt-leb _ _ c.if2.true) refl
+returns-2 c = rw (← c.held_in-held.ensures, lt-leb _ _ c.if-store-held.true) refl
 
-slice-aggregate-read-length : tie.Need-slice-aggregate-read-length
-slice-aggregate-read-length c = sym (length-take-le _ _ c.before.if2.false)
+slice-aggregate-read-length : tie.Need-slice_bounds-read_length-end
+slice-aggregate-read-length c = sym (length-take-le _ _ c.if-store-held.false)
 
-returns-3 : tie.Need-returns-3
+returns-3 : tie.Need-returns
 unfolding held_look
 returns-3 c =
-    let at-if2 = c.before.before in
-    rw (← at-if2.before.before.held_in.ensures, le-leb _ _ at-if2.if2.false) c.read_length.ensures
+    rw (← c.held_in-held.ensures, le-leb _ _ c.if-store-held.false) c.read_length.ensures
 
-pub stated-spec : {M : Type 1} → statement M
-stated-spec =
+pub stated_spec : {M : Type 1} → statement M
+stated_spec =
     tie.close
     (tie.spec
     (λ c κs. search rules)

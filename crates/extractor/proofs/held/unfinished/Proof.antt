@@ -7,20 +7,20 @@ use borrow.Author.Rules.{rules}
 use Rattle.extractor.proofs.held.unfinished.Statement.{statement}
 use Rattle.extractor.proofs.held.unfinished.Tie as tie
 
-returns : tie.Need-returns
+returns : tie.Need-returns-in-More
 unfolding unfinished seen
-returns c = rw c.enum_told.given.1 refl
+returns c = rw c.in-More.is refl
 
-returns-2 : tie.Need-returns-2
+returns-2 : tie.Need-returns-in-Damaged
 unfolding unfinished seen
-returns-2 c = rw c.enum-told2.given.1 refl
+returns-2 c = rw c.in-Damaged.is refl
 
-returns-3 : tie.Need-returns-3
+returns-3 : tie.Need-returns-in-Whole
 unfolding unfinished seen
-returns-3 c = rw c.before.length.given.1 refl
+returns-3 c = rw c.in-Whole.is refl
 
-pub unfinished-spec : {M : Type 1} → statement M
-unfinished-spec =
+pub unfinished_spec : {M : Type 1} → statement M
+unfinished_spec =
     tie.close
     (tie.spec
     (λ c. search rules)

@@ -20,11 +20,11 @@ stays (InStep last h) k = refl
 stays (Walking last h at) k = refl
 stays (Leaving last) k = absurd (miss (0 ∷ 1 ∷ 2 ∷ 3 ∷ []) 4 tt k)
 
-returns : tie.Need-returns
-returns c = stays c.before.args.x c.match.keys2
+returns : tie.Need-returns-in_default
+returns c = stays c.args.x c.in_default.in_default-own.keys2
 
-returns-2 : tie.Need-returns-2
-returns-2 c = rw c.before.x.given.1 refl
+returns-2 : tie.Need-returns
+returns-2 c = rw c.in-Leaving.is refl
 
-pub at-rest-spec : {M : Type 1} → statement M
-at-rest-spec = tie.close (tie.spec (λ c. search rules) returns returns-2)
+pub at_rest_spec : {M : Type 1} → statement M
+at_rest_spec = tie.close (tie.spec (λ c. search rules) returns returns-2)

@@ -15,12 +15,12 @@ use Rattle.extractor.proofs.walking.keep.Tie as tie
 
 returns : tie.Need-returns
 returns c =
-    let a = c.before.before.before.before.before.before.args in
+    let a = c.args in
     let n : length (take (a.to - a.from) (drop a.from a.frame.now)) ≡ a.to - a.from =
     length_run a.frame.now a.from (a.to - a.from) (omega arith) in
     rw n
     (ap₂ (λ (k : ℕ) (st : List ℕ). steps_to Spent (InStep a.last (a.held + k)) st) {y = a.to - a.from} (omega arith)
-    (c.before.before.lay.ensures.left
+    (c.lay.ensures.left
     ∙ part_within a.store.now a.held a.from a.to a.frame.now (omega arith) (omega arith) (omega arith)))
 
 pub keep_spec : {M : Type 1} → statement M

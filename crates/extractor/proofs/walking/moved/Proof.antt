@@ -33,41 +33,40 @@ rested s f store (InStep last h) k = refl
 rested s f store (Walking last h at) k = absurd (miss (0 ∷ 1 ∷ 2 ∷ 4 ∷ []) 3 tt k)
 rested s f store (Leaving last) k = refl
 
-returns : tie.Need-returns
+returns : tie.Need-returns-in_default
 returns c =
-    let a = c.before.before.before.before.args in
-    rw c.at_rest.ensures (rested a.s a.frame.now a.store.now a.x c.before.match.keys2)
+    let a = c.args in
+    rw c.at_rest.ensures (rested a.s a.frame.now a.store.now a.x c.in_default.in_default-own.keys2)
 
 walk-requires : tie.Need-walk-requires
 walk-requires c κs =
-    let at_x = c.before.before.before in
-    let b = at_x.before.before.before.before in
-    rw (← c.before.if1.true) (walks b.args.s _ _ _ b.args.store.now b.args.frame.now (unrefused b at_x.x.given.1))
+    let at_x = c.before.before in
+    let b = at_x.before.before.before in
+    rw (← c.if-held-eq0.true) (walks b.args.s _ _ _ b.args.store.now b.args.frame.now (unrefused b at_x.in-Walking.is))
 
 complete-requires : tie.Need-complete-requires
 complete-requires c κs =
-    let at_x = c.before.before.before in
-    let b = at_x.before.before.before.before in
-    let held = c.before.if1.false in (
-      ((walks_held b.args.s _ _ _ b.args.store.now b.args.frame.now (unrefused b at_x.x.given.1) held).1, held),
-      subst (λ (x : Extractor). Says b.args.s b.args.store.now (held_in x) b.args.stated) at_x.x.given.1 b.requires.1,
+    let at_x = c.before.before in
+    let b = at_x.before.before.before in
+    let held = c.if-held-eq0.false in (
+      ((walks_held b.args.s _ _ _ b.args.store.now b.args.frame.now (unrefused b at_x.in-Walking.is) held).1, held),
+      subst (λ (x : Extractor). Says b.args.s b.args.store.now (held_in x) b.args.stated) at_x.in-Walking.is b.requires.1,
     )
 
-returns-2 : tie.Need-returns-2
+returns-2 : tie.Need-returns-then-held-eq0
 returns-2 c =
-    let at-if1 = c.before.before.before.before in
-    rw (at-if1.before.before.x.given.1, at-if1.if1.true) c.before.before.walk.ensures
+    rw (c.in-Walking.is, c.if-held-eq0.true) c.walk.ensures
 
-returns-3 : tie.Need-returns-3
+returns-3 : tie.Need-returns
 returns-3 c =
     let at-if1 = c.before.before.before.before in
-    let at_x = at-if1.before.before in
-    let b = at_x.before.before.before.before in
-    let e = at_x.x.given.1 in
-    rw (e, (walks_held b.args.s _ _ _ b.args.store.now b.args.frame.now (unrefused b e) at-if1.if1.false).0) c.before.before.complete.ensures
+    let at_x = at-if1.before in
+    let b = at_x.before.before.before in
+    let e = at_x.in-Walking.is in
+    rw (e, (walks_held b.args.s _ _ _ b.args.store.now b.args.frame.now (unrefused b e) at-if1.if-held-eq0.false).0) c.complete.ensures
 
-pub moved-spec : {M : Type 1} → statement M
-moved-spec =
+pub moved_spec : {M : Type 1} → statement M
+moved_spec =
     tie.close
     (tie.spec
     (λ c. search rules)
