@@ -1,4 +1,6 @@
 // The judge of a recorded run: one whole frame at a time or any number of them end to end, and a verdict at the close.
+#![tactic(auto)]
+
 ghost use Rattle.std.specs.Prelude.{◌≡◌};
 ghost use Rattle.judge.specs.Calls.{judge_says, frame_call, close_says, close_call};
 ghost use Rattle.judge.specs.Tapes.{tape_call};

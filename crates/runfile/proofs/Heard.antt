@@ -1,6 +1,6 @@
 -- What is heard of a file that is handed to the reader record by record is what the grammar says of its octets.
 -- Assumes nothing.
-use mathlib.Core.Path.{◌≡◌, refl, sym, ap, ◌∙◌}
+use mathlib.Core.Path.{◌≡◌, refl, sym, ap, subst, ◌∙◌}
 use mathlib.Core.List.{List, [], ◌∷◌}
 use mathlib.Core.Bool.{Bool, true, false}
 use mathlib.Core.Option.{some}
@@ -134,5 +134,7 @@ heard_is_reading [] = refl
 heard_is_reading (k ∷ os) = go (eqb k 1) refl
   where
     go : (t : Bool) → eqb k 1 ≡ t → heard_of (k ∷ os) ≡ reading (k ∷ os)
-    go true e = rw (eqb-true k 1 e) (setup os (leb setup_length (length os)) (fits (settings os)) refl refl)
+    go true e =
+        subst (λ (kind : ℕ). heard_of (kind ∷ os) ≡ reading (kind ∷ os)) (sym (eqb-true k 1 e))
+        (setup os (leb setup_length (length os)) (fits (settings os)) refl refl)
     go false e = heard_bad (suc (length os)) Start k 0 os (rw e refl) ∙ sym (rw e refl)

@@ -7,13 +7,13 @@ use borrow.Author.Rules.{rules}
 use Rattle.judge.proofs.close.Statement.{statement}
 use Rattle.judge.proofs.close.Tie as tie
 
-returns : tie.Need-returns
+returns : tie.Need-returns-then-refusal-ne0
 unfolding close_call
-returns c = rw (← c.before.refusal.ensures, ne_eqb _ _ c.if1.true) refl
+returns c = rw (← c.refusal-refusal.ensures, ne_eqb _ _ c.if-refusal-ne0.true) refl
 
-returns-2 : tie.Need-returns-2
+returns-2 : tie.Need-returns
 unfolding close_call
-returns-2 c = rw (← c.before.before.refusal.ensures, eq-eqb _ _ c.before.if1.false, c.verdict.ensures) refl
+returns-2 c = rw (← c.refusal-refusal.ensures, eq-eqb _ _ c.if-refusal-ne0.false, c.verdict.ensures) refl
 
 pub close_spec : {M : Type 1} → statement M
 close_spec =

@@ -8,26 +8,25 @@ use borrow.Author.Rules.{rules}
 use Rattle.judge.proofs.record.counts_well.Statement.{statement}
 use Rattle.judge.proofs.record.counts_well.Tie as tie
 
-mul-result : tie.Need-overflow-mul-result
+mul-result : tie.Need-overflow_mul-result
 mul-result c =
-    let at_start = c.before.before.before.before in
-    let r = settled at_start.args.s at_start.requires in
-    record { fits = omega (arith, mul-le-mul_left c.before.before.j.given.0.0 r.zone_most) }
+    let r = settled c.args.s c.requires in
+    record { fits = omega (arith, mul-le-mul_left c.in-Sound.tally r.zone_most) }
 
-returns : tie.Need-returns
+returns : tie.Need-returns-in-Open
 unfolding counts_well
-returns c = rw c.enum_told.given.1
+returns c = rw c.in-Open.is
 
-returns-2 : tie.Need-returns-2
+returns-2 : tie.Need-returns-in-Sound
 unfolding counts_well
-returns-2 c = rw c.before.before.j.given.1
+returns-2 c = rw c.in-Sound.is
 
-returns-3 : tie.Need-returns-3
+returns-3 : tie.Need-returns-in-Faulty
 unfolding counts_well
-returns-3 c = rw c.before.j2.given.1
+returns-3 c = rw c.in-Faulty.is
 
-pub counts-well-spec : {M : Type 1} → statement M
-counts-well-spec =
+pub counts_well_spec : {M : Type 1} → statement M
+counts_well_spec =
     tie.close
     (tie.spec
     (λ c. search rules)

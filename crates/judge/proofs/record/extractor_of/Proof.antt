@@ -4,11 +4,11 @@ use borrow.Author.Rules.{rules}
 use Rattle.judge.proofs.record.extractor_of.Statement.{statement}
 use Rattle.judge.proofs.record.extractor_of.Tie as tie
 
-returns-2 : tie.Need-returns-2
-returns-2 c = rw c.before.j.given.1
+returns-2 : tie.Need-returns-in-Sound
+returns-2 c = rw c.in-Sound.is
 
-pub extractor-of-spec : {M : Type 1} → statement M
-extractor-of-spec =
+pub extractor_of_spec : {M : Type 1} → statement M
+extractor_of_spec =
     tie.close
     (tie.spec
     (λ c. search rules)

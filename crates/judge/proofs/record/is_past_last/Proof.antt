@@ -11,10 +11,10 @@ use Rattle.judge.proofs.record.is_past_last.Tie as tie
 
 returns : tie.Need-returns
 returns c =
-    let a = c.before.args in
+    let a = c.args in
     let e = c.tally_of.ensures in
-    let few = c.before.requires in
+    let few = c.requires in
     leb_iff (suc (most_frames - c.tally_of.result)) a.more (suc most_frames) (tally_of a.j + a.more) (λ h. omega arith) (λ h. omega arith)
 
-pub is-past-last-spec : {M : Type 1} → statement M
-is-past-last-spec = tie.close (tie.spec (λ c κs. search rules) (λ c. search rules) (λ c. search rules) returns)
+pub is_past_last_spec : {M : Type 1} → statement M
+is_past_last_spec = tie.close (tie.spec (λ c κs. search rules) (λ c. search rules) (λ c. search rules) returns)

@@ -11,36 +11,36 @@ use Rattle.judge.proofs.record.refusal.Statement.{statement}
 use Rattle.judge.proofs.record.refusal.Tie as tie
 
 -- the extractor's rows, at the place where they are told
-told : (c : tie.After-record-refusal)
-    → let a = c.before.before.before.args in
-    c.record_refusal.result ≡ holding a.s a.store.now a.j
-told c = rw (c.record_refusal.ensures, c.before.extractor_of.ensures) refl
+told : (c : tie.After-record_refusal-holding)
+    → let a = c.args in
+    c.record_refusal-holding.result ≡ holding a.s a.store.now a.j
+told c = rw (c.record_refusal-holding.ensures, c.extractor_of.ensures) refl
 
-returns : tie.Need-returns
+returns : tie.Need-returns-then-holding-ne0
 returns c =
-    let a = c.before.before.before.before.args in
+    let a = c.args in
     let e = told c.before in
-    e ∙ refused_holding a.s a.store.now a.j (λ none. c.if1.true (e ∙ none))
+    e ∙ refused_holding a.s a.store.now a.j (λ none. c.if-holding-ne0.true (e ∙ none))
 
 -- where the extractor's rows do not hold
-passed : (c : tie.Else1)
-    → let a = c.before.before.before.before.args in
+passed : (c : tie.Else-holding-ne0)
+    → let a = c.args in
     (in_range a.s ≡ true) × (pick (not (counts_well a.s a.j)) 10 0 ≡ first (close_rows a.s a.store.now a.j))
 passed c =
-    let a = c.before.before.before.before.args in
-    accepted_holding a.s a.store.now a.j (sym (told c.before) ∙ c.if1.false)
+    let a = c.args in
+    accepted_holding a.s a.store.now a.j (sym (told c.before) ∙ c.if-holding-ne0.false)
 
-counts-well-requires : tie.Need-counts-well-requires
+counts-well-requires : tie.Need-counts_well-requires
 counts-well-requires c κs = (passed c).0
 
-returns-2 : tie.Need-returns-2
-returns-2 c = rw (← c.before.counts_well.ensures, c.if2.true) at (passed c.before.before).1
+returns-2 : tie.Need-returns-then-not-counts_well
+returns-2 c = rw (← c.counts_well.ensures, c.if-not-counts_well.true-raw) at (passed c.before.before).1
 
-returns-3 : tie.Need-returns-3
-returns-3 c = rw (← c.before.counts_well.ensures, c.if2.false) at (passed c.before.before).1
+returns-3 : tie.Need-returns
+returns-3 c = rw (← c.counts_well.ensures, c.if-not-counts_well.false-raw) at (passed c.before.before).1
 
-pub refusal-spec : {M : Type 1} → statement M
-refusal-spec =
+pub refusal_spec : {M : Type 1} → statement M
+refusal_spec =
     tie.close
     (tie.spec
     (λ c κs. search rules)

@@ -6,24 +6,24 @@ use borrow.Author.Rules.{rules}
 use Rattle.judge.proofs.record.verdict.Statement.{statement}
 use Rattle.judge.proofs.record.verdict.Tie as tie
 
-returns : tie.Need-returns
+returns : tie.Need-returns-in-Open
 unfolding judge_close closes_with
-returns c = rw c.enum_told.given.1
+returns c = rw c.in-Open.is
 
-returns-2 : tie.Need-returns-2
+returns-2 : tie.Need-returns-then-held-eq0
 unfolding judge_close closes_with
-returns-2 c = rw (c.before.before.j.given.1, eq-eqb _ _ c.if1.true)
+returns-2 c = rw (c.in-Sound.is, eq-eqb _ _ c.if-held-eq0.true)
 
-returns-3 : tie.Need-returns-3
+returns-3 : tie.Need-returns-else-held-eq0
 unfolding judge_close closes_with
-returns-3 c = rw (c.before.before.j.given.1, ne_eqb _ _ c.if1.false)
+returns-3 c = rw (c.in-Sound.is, ne_eqb _ _ c.if-held-eq0.false)
 
-returns-4 : tie.Need-returns-4
+returns-4 : tie.Need-returns-in-Faulty
 unfolding judge_close closes_with
-returns-4 c = rw c.before.j2.given.1
+returns-4 c = rw c.in-Faulty.is
 
-pub verdict-spec : {M : Type 1} → statement M
-verdict-spec =
+pub verdict_spec : {M : Type 1} → statement M
+verdict_spec =
     tie.close
     (tie.spec
     (λ c. search rules)

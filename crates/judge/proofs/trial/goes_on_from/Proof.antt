@@ -23,17 +23,17 @@ out-of-step n (InStep last held) k = absurd (miss (0 ∷ 1 ∷ 3 ∷ 4 ∷ []) 2
 out-of-step n (Walking last held at) k = refl
 out-of-step n (Leaving last) k = refl
 
-returns : tie.Need-returns
+returns : tie.Need-returns-in_default
 returns c =
-    let a = c.before.before.args in
-    c.fault.ensures ∙ out-of-step a.n a.x c.before.match.keys2
+    let a = c.args in
+    c.fault.ensures ∙ out-of-step a.n a.x c.in_default.in_default-own.keys2
 
-returns-2 : tie.Need-returns-2
+returns-2 : tie.Need-returns
 unfolding goes_on_from
-returns-2 c = rw c.before.x.given.1
+returns-2 c = rw c.in-InStep.is
 
-pub goes-on-from-spec : {M : Type 1} → statement M
-goes-on-from-spec =
+pub goes_on_from_spec : {M : Type 1} → statement M
+goes_on_from_spec =
     tie.close
     (tie.spec
     (λ c. search rules)

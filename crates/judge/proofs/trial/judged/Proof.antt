@@ -21,44 +21,43 @@ accepted c e =
 tried-requires : tie.Need-tried-requires
 tried-requires c κs =
     let at_told = c.before.before in
-    let b = at_told.before.before.before.before in
-    rw c.before.ready_for.ensures (open_tries (heading b.args.s b.args.frame.now).count (accepted b at_told.enum_told.given.1))
+    let b = at_told.before.before.before in
+    rw c.ready_for-x.ensures (open_tries (heading b.args.s b.args.frame.now).count (accepted b at_told.in-Open.is))
 
-tried-requires-2 : tie.Need-tried-requires-2
+tried-requires-2 : tie.Need-tried-requires-in-Sound
 tried-requires-2 c κs =
-    let at_j = c.before.before in
-    sound_tries (accepted at_j.before.before.before.before at_j.j.given.1)
-
-add-t17 : tie.Need-overflow-add-t17
-add-t17 c =
     let at_j = c.before in
-    record { fits = omega (arith, (accepted at_j.before.before.before.before at_j.j2.given.1).few) }
+    sound_tries (accepted at_j.before.before.before at_j.in-Sound.is)
 
-returns : tie.Need-returns
+add-t17 : tie.Need-overflow_add-result
+add-t17 c =
+    let at_j = c in
+    record { fits = omega (arith, (accepted at_j.before.before.before at_j.in-Faulty.is).few) }
+
+returns : tie.Need-returns-in-Open
 unfolding judge_frame
 returns c =
     let at_tried = c.before.before in
     let at_ready = at_tried.before.before in
     let at_told = at_ready.before in
-    let b = at_told.before.before.before.before in
+    let b = at_told.before.before.before in
     let a = b.args in
-    rw at_told.enum_told.given.1
+    rw at_told.in-Open.is
     (at_tried.tried.ensures
-    ∙ ap (λ (x : Extractor). try_frame a.s 0 (stands_for a.store.now x) a.store.now a.frame.now) at_ready.ready_for.ensures
-    ∙ opened_tried a.s a.store.now a.frame.now (accepted b at_told.enum_told.given.1).found.ranged)
+    ∙ ap (λ (x : Extractor). try_frame a.s 0 (stands_for a.store.now x) a.store.now a.frame.now) at_ready.ready_for-x.ensures
+    ∙ opened_tried a.s a.store.now a.frame.now (accepted b at_told.in-Open.is).found.ranged)
 
-returns-2 : tie.Need-returns-2
+returns-2 : tie.Need-returns-in-Sound
 unfolding judge_frame
 returns-2 c =
-    let at_tried = c.before.before in
-    rw at_tried.before.before.before.j.given.1 at_tried.tried2.ensures
+    rw c.in-Sound.is c.tried-in-Sound.ensures
 
-returns-3 : tie.Need-returns-3
+returns-3 : tie.Need-returns-in-Faulty
 unfolding judge_frame
-returns-3 c = rw c.before.j2.given.1 refl
+returns-3 c = rw c.in-Faulty.is refl
 
-pub judged-spec : {M : Type 1} → statement M
-judged-spec =
+pub judged_spec : {M : Type 1} → statement M
+judged_spec =
     tie.close
     (tie.spec
     (λ c. search rules)

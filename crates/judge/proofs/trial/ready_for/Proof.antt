@@ -6,7 +6,7 @@ use Rattle.judge.proofs.trial.ready_for.Statement.{statement}
 use Rattle.judge.proofs.trial.ready_for.Tie as tie
 
 returns : tie.Need-returns
-returns c = rw (c.missing.ensures, c.before.read_head.ensures) refl
+returns c = rw (c.missing.ensures, c.read_head-heading.ensures) refl
 
-pub ready-for-spec : {M : Type 1} → statement M
-ready-for-spec = tie.close (tie.spec (λ c κs. search rules) (λ c κs. search rules) returns)
+pub ready_for_spec : {M : Type 1} → statement M
+ready_for_spec = tie.close (tie.spec (λ c κs. search rules) (λ c κs. search rules) returns)

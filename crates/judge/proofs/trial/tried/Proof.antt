@@ -7,35 +7,25 @@ use borrow.Author.Rules.{rules}
 use Rattle.judge.proofs.trial.tried.Statement.{statement}
 use Rattle.judge.proofs.trial.tried.Tie as tie
 
-returns : tie.Need-returns
+returns : tie.Need-returns-in_default
 returns c =
-    let at-enter = c.before.before.before in
-    let b = at-enter.before.before.before.before in
     rw c.fault.ensures
-    (refused_tried b.requires b.args.frame.now at-enter.enter.result at-enter.enter.ensures _ c.before.enum_told.given.1)
+    (refused_tried c.requires c.args.frame.now c.enter-entering.result c.enter-entering.ensures _ c.in_default.is)
 
-returns-2 : tie.Need-returns-2
+returns-2 : tie.Need-returns-then-entry
 returns-2 c =
-    let at-entered = c.before.before.before.before.before in
-    let at-enter = at-entered.before.before in
-    let b = at-enter.before.before.before.before in
-    rw c.fault2.ensures
-    (marked_tried b.requires b.args.frame.now at-enter.enter.result at-enter.enter.ensures _ at-entered.entered.given.1 c.before.if1.true)
+    rw c.fault-then-entry.ensures
+    (marked_tried c.requires c.args.frame.now c.enter-entering.result c.enter-entering.ensures _ c.in-Taken.is c.if-entry.true)
 
-returns-3 : tie.Need-returns-3
+returns-3 : tie.Need-returns
 unfolding spend_answer
 returns-3 c =
-    let at-spend = c.before.before.before in
-    let at-if1 = at-spend.before.before in
-    let at-entered = at-if1.before.before.before.before in
-    let at-enter = at-entered.before.before in
-    let b = at-enter.before.before.before.before in
-    let e = at-spend.spend.ensures in
+    let e = c.spend-spending.ensures in
     rw (c.goes_on_from.ensures, ap (λ (a : SpendSaid). a.next) e, ap (λ (a : SpendSaid). a.store) e)
-    (unmarked_tried b.requires b.args.frame.now at-enter.enter.result at-enter.enter.ensures _ at-entered.entered.given.1 at-if1.if1.false)
+    (unmarked_tried c.requires c.args.frame.now c.enter-entering.result c.enter-entering.ensures _ c.in-Taken.is c.if-entry.false)
 
-pub tried-spec : {M : Type 1} → statement M
-tried-spec =
+pub tried_spec : {M : Type 1} → statement M
+tried_spec =
     tie.close
     (tie.spec
     (λ c κs. search rules)
