@@ -29,7 +29,7 @@ counts_rise : (s : Settings) (c : ℕ) (fs : List (List ℕ)) → CountsFrom s c
 unfolding Rising
 counts_rise s c [] k = tt
 counts_rise s c (f ∷ []) k = tt
-counts_rise s c (f ∷ (g ∷ fs)) k = (k.1.0 ∙ ap (next_count (count_width s.link)) (sym k.0), counts_rise s _ (g ∷ fs) k.1)
+counts_rise s c (f ∷ (g ∷ fs)) k = (k.1.0 ∙ ap (next_count (count_width s.link)) (sym k.0), counts_rise s (next_count (count_width s.link) c) (g ∷ fs) k.1)
 
 -- the count of the frame with i before it, where the first is n on the wheel
 count_on : (s : Settings) (n c i : ℕ) (fs : List (List ℕ)) → c ≡ n % 2 ^ count_width s.link → CountsFrom s c fs → i < length fs

@@ -3,12 +3,20 @@
 -- the call's lifetimes and its arguments; `Post` of these, the result, and the arguments as they are left: a slice that is lent to be
 -- written stays where it was, with other elements (`at_last`), and all else stays as it was.
 use Rattle.std.specs.Prelude.{ℕ, ◌≡◌, List, eqb}
-use Rattle.std.specs.Borrow.{Bor}
+use Rattle.std.specs.Borrow.{Bor, MutBor}
 use Rattle.octets.specs.Basics.{pick, Row, first}
 
--- a slice that is lent: where it lies, the name that it is known by, and its elements, which `now` reads
+-- a slice that is lent to be read: where it lies, and its elements, which `now` reads
 abbrev pub Slice : Type 0
 Slice = Bor (List ℕ)
+
+-- a slice that is lent to be written: the name that it is known by besides
+abbrev pub MutSlice : Type 0
+MutSlice = MutBor (List ℕ)
+
+-- a part that is handed back, where it lies, with these elements
+abbrev pub lying : Slice → List ℕ → Slice
+lying part os = record { ref_ptr = part.ref_ptr; now = os }
 
 -- what comes of a call that is lent octets to write: its answer, and these octets after it
 pub record Left (A : Type 0) : Type 0 where

@@ -51,8 +51,7 @@ fn writer_of(numbers: &[u64]) -> Writer
     }
 }
 
-#[unsafe(no_mangle)]
-pub extern "C" fn itz_bits_write(
+pub fn itz_bits_write(
     settings: &[u64],
     record: &mut [u64],
     bits: &[u8],
@@ -137,13 +136,7 @@ fn read_said(reading: Reading, size: usize) -> [u64; 7]
     ]
 }
 
-#[unsafe(no_mangle)]
-pub extern "C" fn itz_bits_read(
-    settings: &[u64],
-    record: &mut [u64],
-    frame: &[u8],
-    answer: &mut [u64],
-) -> u64
+pub fn itz_bits_read(settings: &[u64], record: &mut [u64], frame: &[u8], answer: &mut [u64]) -> u64
     ensures { left result «record».new [] answer.new ≡ read_leaves settings.now «record».old frame.now answer.old }
 {
     if bits_short(

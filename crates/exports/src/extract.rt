@@ -112,8 +112,7 @@ fn entered_said(entered: Entered) -> [u64; 8]
     }
 }
 
-#[unsafe(no_mangle)]
-pub extern "C" fn itz_extractor_enter(
+pub fn itz_extractor_enter(
     settings: &[u64],
     record: &mut [u64],
     store: &[u8],
@@ -161,8 +160,7 @@ fn step_said(found: Found) -> [u64; 6]
     }
 }
 
-#[unsafe(no_mangle)]
-pub extern "C" fn itz_extractor_step(
+pub fn itz_extractor_step(
     settings: &[u64],
     record: &mut [u64],
     store: &mut [u8],
@@ -209,8 +207,7 @@ fn show_numbers(step: &[u64], frame: usize, store: usize) -> [u64; 3]
     [0; 3]
 }
 
-#[unsafe(no_mangle)]
-pub extern "C" fn itz_show(step: &[u64], frame: &[u8], store: &[u8], answer: &mut [u64]) -> u64
+pub fn itz_show(step: &[u64], frame: &[u8], store: &[u8], answer: &mut [u64]) -> u64
     ensures { left result [] [] answer.new ≡ show_leaves step.now frame.now store.now answer.old }
 {
     if (step.len() < STEP_ENTRIES) | (answer.len() < SHOWN_ENTRIES) {

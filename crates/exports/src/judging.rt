@@ -79,13 +79,7 @@ fn keep_judged(record: &mut [u64], judged: Judged) -> u64
     refusal
 }
 
-#[unsafe(no_mangle)]
-pub extern "C" fn itz_judge_frame(
-    settings: &[u64],
-    record: &mut [u64],
-    store: &mut [u8],
-    frame: &[u8],
-) -> u64
+pub fn itz_judge_frame(settings: &[u64], record: &mut [u64], store: &mut [u8], frame: &[u8]) -> u64
     ensures { left result «record».new store.new [] ≡ judge_leaves settings.now «record».old store.old frame.now }
 {
     if is_short(settings.len(), record.len(), 0, 0) {
@@ -95,13 +89,7 @@ pub extern "C" fn itz_judge_frame(
     keep_judged(record, judged)
 }
 
-#[unsafe(no_mangle)]
-pub extern "C" fn itz_judge_tape(
-    settings: &[u64],
-    record: &mut [u64],
-    store: &mut [u8],
-    tape: &[u8],
-) -> u64
+pub fn itz_judge_tape(settings: &[u64], record: &mut [u64], store: &mut [u8], tape: &[u8]) -> u64
     ensures { left result «record».new store.new [] ≡ tape_leaves settings.now «record».old store.old tape.now }
 {
     if is_short(settings.len(), record.len(), 0, 0) {
@@ -122,13 +110,7 @@ fn closed_said(closed: Closed) -> [u64; 3]
     }
 }
 
-#[unsafe(no_mangle)]
-pub extern "C" fn itz_judge_close(
-    settings: &[u64],
-    record: &[u64],
-    store: &[u8],
-    answer: &mut [u64],
-) -> u64
+pub fn itz_judge_close(settings: &[u64], record: &[u64], store: &[u8], answer: &mut [u64]) -> u64
     ensures { left result [] [] answer.new ≡ close_leaves settings.now «record».now store.now answer.old }
 {
     if is_short(settings.len(), record.len(), answer.len(), VERDICT_ENTRIES) {

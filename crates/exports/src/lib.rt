@@ -1,4 +1,6 @@
 // The library for C and Rust: `include/itzahuemo.h` declares these functions and says what each number stands for.
+#![tactic(auto)]
+
 mod bits;
 mod channel;
 mod extract;

@@ -42,8 +42,7 @@ fn mux_numbers(m: Mux) -> [u64; 4]
     ]
 }
 
-#[unsafe(no_mangle)]
-pub extern "C" fn itz_mux_begin(record: &mut [u64]) -> u64
+pub fn itz_mux_begin(record: &mut [u64]) -> u64
     ensures { left result «record».new [] [] ≡ begin_leaves «record».old }
 {
     if record.len() < RECORD_ENTRIES {
@@ -95,8 +94,7 @@ fn flush_said(reply: Reply) -> [u64; 2]
     }
 }
 
-#[unsafe(no_mangle)]
-pub extern "C" fn itz_mux_put(
+pub fn itz_mux_put(
     settings: &[u64],
     record: &mut [u64],
     packet: &[u8],
@@ -114,8 +112,7 @@ pub extern "C" fn itz_mux_put(
     leave(record, &state, answer, &said)
 }
 
-#[unsafe(no_mangle)]
-pub extern "C" fn itz_mux_flush(
+pub fn itz_mux_flush(
     settings: &[u64],
     record: &mut [u64],
     frame: &mut [u8],
@@ -132,8 +129,7 @@ pub extern "C" fn itz_mux_flush(
     leave(record, &state, answer, &said)
 }
 
-#[unsafe(no_mangle)]
-pub extern "C" fn itz_mux_idle(settings: &[u64], record: &mut [u64], frame: &mut [u8]) -> u64
+pub fn itz_mux_idle(settings: &[u64], record: &mut [u64], frame: &mut [u8]) -> u64
     ensures { left result «record».new frame.new [] ≡ mux_leaves to_idle 0 no_numbers settings.now «record».old frame.old [] }
 {
     if is_short(settings.len(), record.len(), 0, 0) {

@@ -77,8 +77,7 @@ fn header_said(header: Header) -> [u64; 8]
     }
 }
 
-#[unsafe(no_mangle)]
-pub extern "C" fn itz_read_header(limit: u64, front: &[u8], answer: &mut [u64]) -> u64
+pub fn itz_read_header(limit: u64, front: &[u8], answer: &mut [u64]) -> u64
     ensures { left result [] [] answer.new ≡ header_leaves limit front.now answer.old }
 {
     if answer.len() < HEADER_ENTRIES {
@@ -98,8 +97,7 @@ fn formed_number(refusal: u64, formed: bool) -> u64
     if formed { FORMED } else { NOT_FORMED }
 }
 
-#[unsafe(no_mangle)]
-pub extern "C" fn itz_well_formed(limit: u64, packet: &[u8], answer: &mut [u64]) -> u64
+pub fn itz_well_formed(limit: u64, packet: &[u8], answer: &mut [u64]) -> u64
     ensures { left result [] [] answer.new ≡ formed_leaves limit packet.now answer.old }
 {
     if answer.len() < FORMED_ENTRIES {
@@ -121,8 +119,7 @@ fn wrapped_said(wrapped: Wrapped) -> [u64; 3]
     }
 }
 
-#[unsafe(no_mangle)]
-pub extern "C" fn itz_wrap(
+pub fn itz_wrap(
     limit: u64,
     protocol: u64,
     extension: u64,
@@ -162,8 +159,7 @@ fn unwrapped_said(unwrapped: Unwrapped) -> [u64; 6]
     }
 }
 
-#[unsafe(no_mangle)]
-pub extern "C" fn itz_unwrap(limit: u64, packet: &[u8], answer: &mut [u64]) -> u64
+pub fn itz_unwrap(limit: u64, packet: &[u8], answer: &mut [u64]) -> u64
     ensures { left result [] [] answer.new ≡ unwrap_leaves limit packet.now answer.old }
 {
     if answer.len() < UNWRAPPED_ENTRIES {
@@ -186,8 +182,7 @@ fn unit_numbers(unwrapped: &[u64], room: usize) -> [u64; 2]
     }
 }
 
-#[unsafe(no_mangle)]
-pub extern "C" fn itz_unit_part(unwrapped: &[u64], packet: &[u8], answer: &mut [u64]) -> u64
+pub fn itz_unit_part(unwrapped: &[u64], packet: &[u8], answer: &mut [u64]) -> u64
     ensures { left result [] [] answer.new ≡ unit_leaves unwrapped.now packet.now answer.old }
 {
     if (unwrapped.len() < UNWRAPPED_ENTRIES) | (answer.len() < UNIT_ENTRIES) {

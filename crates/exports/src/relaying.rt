@@ -105,8 +105,7 @@ fn wide(numbers: &[u64]) -> bool
 }
 
 // The old table stays in its array where the load is refused.
-#[unsafe(no_mangle)]
-pub extern "C" fn itz_relay_load(entries: &[u64], table: &mut [u64]) -> u64
+pub fn itz_relay_load(entries: &[u64], table: &mut [u64]) -> u64
     ensures { left result table.new [] [] ≡ load_leaves entries.now table.old }
 {
     if (entries.len() % 2 != 0) | (table.len() < TABLE_NUMBERS) {
@@ -135,8 +134,7 @@ fn routed_said(routed: Routed) -> [u64; 4]
     }
 }
 
-#[unsafe(no_mangle)]
-pub extern "C" fn itz_relay_route(
+pub fn itz_relay_route(
     limit: u64,
     table: &[u64],
     packet: &[u8],

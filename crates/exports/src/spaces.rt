@@ -43,8 +43,7 @@ fn space_said(read: SpaceRead) -> [u64; 9]
     }
 }
 
-#[unsafe(no_mangle)]
-pub extern "C" fn itz_read_space(packet: &[u8], answer: &mut [u64]) -> u64
+pub fn itz_read_space(packet: &[u8], answer: &mut [u64]) -> u64
     ensures { left result [] [] answer.new ≡ read_space_leaves packet.now answer.old }
 {
     if answer.len() < SPACE_ENTRIES {
@@ -92,8 +91,7 @@ fn header_of(numbers: &[u64]) -> SpaceHeader
     }
 }
 
-#[unsafe(no_mangle)]
-pub extern "C" fn itz_write_space(header: &[u64], packet: &mut [u8]) -> u64
+pub fn itz_write_space(header: &[u64], packet: &mut [u8]) -> u64
     ensures { left result [] packet.new [] ≡ write_space_leaves header.now packet.old }
 {
     if header.len() < HEADER_ENTRIES {

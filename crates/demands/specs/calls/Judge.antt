@@ -10,26 +10,26 @@ use Rattle.judge.specs.Statements.{KeepsToTheTest, TapesAreFrames}
 use Rattle.judge.specs.declared.Judge.{Judge}
 use Rattle.judge.specs.declared.Judged.{Judged}
 use Rattle.judge.specs.declared.Closed.{Closed}
-use Rattle.judge.proofs.frame.Reads as frame-fn
-use Rattle.judge.proofs.tape.Reads as tape-fn
-use Rattle.judge.proofs.close.Reads as close-fn
-use Rattle.demands.specs.Promises.{Slice, Left, as_read, Promised}
+use Rattle.judge.proofs.frame.Reads as frame_fn
+use Rattle.judge.proofs.tape.Reads as tape_fn
+use Rattle.judge.proofs.close.Reads as close_fn
+use Rattle.demands.specs.Promises.{Slice, MutSlice, Left, as_read, Promised}
 
 -- a frame, a tape and the close; the record that a call leaves passes the check for refusal 10 over the store that it leaves, and it is exact;
 -- and a tape is its frames
 pub record OfJudge : Type 0 where
-  pub frame : (κs : Lfts 2) (s : Settings) (j : Judge) (store f : Slice)
-      → Promised (as_read (frame-fn.Pre κs (s, (j, (store, (f, tt)))))
-      (λ (o : Left Judged). frame-fn.Post κs (s, (j, (store, (f, tt)))) o.answer (s, (j, (at_last store o.lent, (f, tt))))))
+  pub frame : (κs : Lfts 2) (s : Settings) (j : Judge) (store : MutSlice) (f : Slice)
+      → Promised (as_read (frame_fn.Pre κs (s, (j, (store, (f, tt)))))
+      (λ (o : Left Judged). frame_fn.Post κs (s, (j, (store, (f, tt)))) o.answer (s, (j, (at_last store o.lent, (f, tt))))))
       (frame_call s store.now j f.now) (frame_refusals s store.now j)
       (λ o. judge_says o.answer o.lent) (λ a. a.refusal) (λ n. judge_answers n (judging j store.now))
-  pub tape : (κs : Lfts 2) (s : Settings) (j : Judge) (store t : Slice)
-      → Promised (as_read (tape-fn.Pre κs (s, (j, (store, (t, tt)))))
-      (λ (o : Left Judged). tape-fn.Post κs (s, (j, (store, (t, tt)))) o.answer (s, (j, (at_last store o.lent, (t, tt))))))
+  pub tape : (κs : Lfts 2) (s : Settings) (j : Judge) (store : MutSlice) (t : Slice)
+      → Promised (as_read (tape_fn.Pre κs (s, (j, (store, (t, tt)))))
+      (λ (o : Left Judged). tape_fn.Post κs (s, (j, (store, (t, tt)))) o.answer (s, (j, (at_last store o.lent, (t, tt))))))
       (tape_call s store.now j t.now) (tape_refusals s store.now j t.now)
       (λ o. judge_says o.answer o.lent) (λ a. a.refusal) (λ n. judge_answers n (judging j store.now))
   pub close : (κs : Lfts 1) (s : Settings) (j : Judge) (store : Slice)
-      → Promised (as_read (close-fn.Pre κs (s, (j, (store, tt)))) (λ (r : Closed). close-fn.Post κs (s, (j, (store, tt))) r (s, (j, (store, tt)))))
+      → Promised (as_read (close_fn.Pre κs (s, (j, (store, tt)))) (λ (r : Closed). close_fn.Post κs (s, (j, (store, tt))) r (s, (j, (store, tt)))))
       (close_call s store.now j) (close_rows s store.now j)
       close_says (λ a. a.refusal) (λ n. record { accepted = false; refusal = n; passes = false; at = 0 })
   pub keeps : KeepsToTheTest

@@ -10,20 +10,20 @@ use Rattle.relay.specs.declared.Entry.{Entry}
 use Rattle.relay.specs.declared.Table.{Table}
 use Rattle.relay.specs.declared.Loaded.{Loaded}
 use Rattle.relay.specs.declared.Routed.{Routed}
-use Rattle.relay.proofs.empty.Reads as empty-fn
+use Rattle.relay.proofs.empty.Reads as empty_fn
 use Rattle.relay.proofs.load.Reads as load_fn
-use Rattle.relay.proofs.route.Reads as route-fn
-use Rattle.demands.specs.Promises.{Slice, Left, as_read, Is, Promised}
+use Rattle.relay.proofs.route.Reads as route_fn
+use Rattle.demands.specs.Promises.{Slice, MutSlice, Left, as_read, Is, Promised}
 
 -- the empty table, loading and routing; and what they keep to, the tables that pass the check for refusal 10 among it, which is exact
 pub record OfRelay : Type 0 where
-  pub empty : Is (as_read (empty-fn.Pre tt tt) (λ (r : Table). empty-fn.Post tt tt r tt)) empty
+  pub empty : Is (as_read (empty_fn.Pre tt tt) (λ (r : Table). empty_fn.Post tt tt r tt)) empty
   pub load : (old : Table) (count : ℕ) (entries : List Entry)
       → Promised (as_read (load_fn.Pre tt (old, (count, (entries, tt)))) (λ (r : Loaded). load_fn.Post tt (old, (count, (entries, tt))) r (old, (count, (entries, tt)))))
       (loading old count entries) (load_rows count (take count entries)) (λ r. r) (λ r. r.refusal) (λ n. record { refusal = n; table = old })
-  pub route : (κs : Lfts 2) (limit : ℕ) (t : Table) (p out : Slice)
-      → Promised (as_read (route-fn.Pre κs (limit, (t, (p, (out, tt)))))
-      (λ (o : Left Routed). route-fn.Post κs (limit, (t, (p, (out, tt)))) o.answer (limit, (t, (p, (at_last out o.lent, tt))))))
+  pub route : (κs : Lfts 2) (limit : ℕ) (t : Table) (p : Slice) (out : MutSlice)
+      → Promised (as_read (route_fn.Pre κs (limit, (t, (p, (out, tt)))))
+      (λ (o : Left Routed). route_fn.Post κs (limit, (t, (p, (out, tt)))) o.answer (limit, (t, (p, (at_last out o.lent, tt))))))
       (routing limit t p.now out.now) (route_rows limit t p.now (length out.now)) (λ o. routes o.answer o.lent) (λ a. a.refusal)
       (λ n. refused n (carried n limit p.now) out.now)
   pub keeps : Relays

@@ -8,13 +8,11 @@ use Rattle.exports.proofs.bits.bit_settings_of.Tie as tie
 returns : tie.Need-returns
 unfolding bit_settings_of
 returns c =
-    let at_width = c.before in
-    let at-link = at_width.before.before in
     rw
-    (c.octet_of.ensures, at_width.zone_for.ensures, at_width.before.entry4.ensures, at-link.link_of.ensures, at-link.before.entry3.ensures, at-link.before.before.entry2.ensures, at-link.before.before.before.entry.ensures)
+    (c.octet_of.ensures, c.zone_for.ensures, c.entry.ensures, c.link_of-link.ensures, c.entry-edition.ensures, c.entry-trailer.ensures, c.entry-fill.ensures)
 
-pub bit-settings-of-spec : {M : Type 1} → statement M
-bit-settings-of-spec =
+pub bit_settings_of_spec : {M : Type 1} → statement M
+bit_settings_of_spec =
     tie.close
     (tie.spec
     (λ c κs. search rules)

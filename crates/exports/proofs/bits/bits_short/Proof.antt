@@ -9,5 +9,5 @@ returns : tie.Need-returns
 unfolding bits_short
 returns c = refl
 
-pub bits-short-spec : {M : Type 1} → statement M
-bits-short-spec = tie.close (tie.spec returns)
+pub bits_short_spec : {M : Type 1} → statement M
+bits_short_spec = tie.close (tie.spec returns)

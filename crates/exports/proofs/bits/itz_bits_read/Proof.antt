@@ -6,32 +6,23 @@ use borrow.Author.Rules.{rules}
 use Rattle.exports.proofs.bits.itz_bits_read.Statement.{statement}
 use Rattle.exports.proofs.bits.itz_bits_read.Tie as tie
 
-returns : tie.Need-returns
+returns : tie.Need-returns-then-bits_short
 returns c =
-    let a = c.before.before.before.before.before.before.args in
+    let a = c.args in
     read_short a.settings.now a.«record».now a.frame.now a.answer.now
-    (sym c.before.bits_short.ensures ∙ c.if1.true)
+    (sym c.bits_short.ensures ∙ c.if-bits_short.true)
 
-returns-2 : tie.Need-returns-2
+returns-2 : tie.Need-returns
 returns-2 c =
-    let at-leave = c.before.before.before.before in
-    let at-said = at-leave.before.before.before.before.before in
-    let at-state = at-said.before in
-    let at-octets = at-state.before in
-    let at_read = at-octets.before in
-    let at-record = at_read.before in
-    let at-settings = at-record.before.before in
-    let at-if1 = at-settings.before in
-    let at-short = at-if1.before in
-    let a = at-short.before.before.before.before.before.args in
+    let a = c.args in
     read_done a.settings.now a.«record».now a.frame.now a.answer.now
-    at-settings.bit_settings_of.result at-record.reader_of.result at_read.read.result
-    (sym at-short.bits_short.ensures ∙ at-if1.if1.false) at-settings.bit_settings_of.ensures at-record.reader_of.ensures
-    at_read.read.ensures at-octets.leading_octets.ensures at-state.reader_numbers.ensures at-said.read-said.ensures
-    at-leave.leave.ensures
+    c.bit_settings_of-settings.result c.reader_of.result c.read-reading.result
+    (sym c.bits_short.ensures ∙ c.if-bits_short.false) c.bit_settings_of-settings.ensures c.reader_of.ensures
+    c.read-reading.ensures c.leading_octets-size.ensures c.reader_numbers-state.ensures c.read_said-said.ensures
+    c.leave.ensures
 
-pub itz-bits-read-spec : {M : Type 1} → statement M
-itz-bits-read-spec =
+pub itz_bits_read_spec : {M : Type 1} → statement M
+itz_bits_read_spec =
     tie.close
     (tie.spec
     (λ c κs. search rules)
@@ -45,6 +36,6 @@ itz-bits-read-spec =
     (λ c. search rules)
     (λ c. search rules)
     (λ c κs. search rules)
-    (λ c. c.before.before.before.«record».given)
-    (λ c. c.before.answer.given)
+    (λ c. c.record-1.given)
+    (λ c. c.answer-1.given)
     returns-2)

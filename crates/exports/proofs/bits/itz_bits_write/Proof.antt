@@ -6,28 +6,22 @@ use borrow.Author.Rules.{rules}
 use Rattle.exports.proofs.bits.itz_bits_write.Statement.{statement}
 use Rattle.exports.proofs.bits.itz_bits_write.Tie as tie
 
-returns : tie.Need-returns
+returns : tie.Need-returns-then-bits_short
 returns c =
-    let a = c.before.before.before.before.before.before.args in
+    let a = c.args in
     write_short a.settings.now a.«record».now a.bits.now a.n a.frame.now
-    (sym c.before.bits_short.ensures ∙ c.if1.true)
+    (sym c.bits_short.ensures ∙ c.if-bits_short.true)
 
-returns-2 : tie.Need-returns-2
+returns-2 : tie.Need-returns
 returns-2 c =
-    let at-keep = c.before.before in
-    let at-write = at-keep.before.before.before.before.before.before.before in
-    let at-record = at-write.before.before in
-    let at-settings = at-record.before.before in
-    let at-if1 = at-settings.before in
-    let at-short = at-if1.before in
-    let a = at-short.before.before.before.before.before.args in
+    let a = c.args in
     write_done a.settings.now a.«record».now a.bits.now a.n a.frame.now
-    at-settings.bit_settings_of.result at-record.writer_of.result at-write.write.result
-    (sym at-short.bits_short.ensures ∙ at-if1.if1.false) at-settings.bit_settings_of.ensures at-record.writer_of.ensures
-    at-write.write.ensures at-keep.keep.ensures.1
+    c.bit_settings_of-settings.result c.writer_of.result c.write-written.result
+    (sym c.bits_short.ensures ∙ c.if-bits_short.false) c.bit_settings_of-settings.ensures c.writer_of.ensures
+    c.write-written.ensures c.keep.ensures.1
 
-pub itz-bits-write-spec : {M : Type 1} → statement M
-itz-bits-write-spec =
+pub itz_bits_write_spec : {M : Type 1} → statement M
+itz_bits_write_spec =
     tie.close
     (tie.spec
     (λ c κs. search rules)
@@ -39,6 +33,6 @@ itz-bits-write-spec =
     (λ c. search rules)
     (λ c. search rules)
     (λ c κs. search rules)
-    (λ c. c.before.«record».given)
-    (λ c. c.before.before.before.before.before.before.before.before.frame.given)
+    (λ c. c.record-1.given)
+    (λ c. c.frame-1.given)
     returns-2)

@@ -8,10 +8,10 @@ use Rattle.exports.proofs.bits.read_said.Tie as tie
 
 returns : tie.Need-returns
 unfolding read_numbers
-returns c = λ s frame e. rw (c.before.flag.ensures, c.bits_at.ensures, e) refl
+returns c = λ s frame e. rw (c.flag.ensures, c.bits_at.ensures, e) refl
 
-pub read-said-spec : {M : Type 1} → statement M
-read-said-spec =
+pub read_said_spec : {M : Type 1} → statement M
+read_said_spec =
     tie.close
     (tie.spec
     (λ c. search rules)

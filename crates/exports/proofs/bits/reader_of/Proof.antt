@@ -6,13 +6,11 @@ use Rattle.exports.proofs.bits.reader_of.Tie as tie
 
 returns : tie.Need-returns
 returns c =
-    let at-waiting = c.before.before in
-    let at_last = at-waiting.before in
     rw
-    (c.reader_with.ensures, c.before.entry3.ensures, at-waiting.entry2.ensures, at_last.count_of.ensures, at_last.before.entry.ensures)
+    (c.reader_with.ensures, c.entry-2.ensures, c.entry-waiting.ensures, c.count_of-last.ensures, c.entry.ensures)
 
-pub reader-of-spec : {M : Type 1} → statement M
-reader-of-spec =
+pub reader_of_spec : {M : Type 1} → statement M
+reader_of_spec =
     tie.close
     (tie.spec
     (λ c κs. search rules)

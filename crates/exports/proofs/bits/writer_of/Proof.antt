@@ -7,7 +7,7 @@ use Rattle.exports.proofs.bits.writer_of.Tie as tie
 
 returns : tie.Need-returns
 unfolding writer_of
-returns c = rw (c.count_of.ensures, c.before.entry.ensures)
+returns c = rw (c.count_of.ensures, c.entry.ensures)
 
-pub writer-of-spec : {M : Type 1} → statement M
-writer-of-spec = tie.close (tie.spec (λ c κs. search rules) (λ c κs. search rules) returns)
+pub writer_of_spec : {M : Type 1} → statement M
+writer_of_spec = tie.close (tie.spec (λ c κs. search rules) (λ c κs. search rules) returns)

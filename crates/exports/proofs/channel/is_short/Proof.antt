@@ -9,5 +9,5 @@ returns : tie.Need-returns
 unfolding short
 returns c = refl
 
-pub is-short-spec : {M : Type 1} → statement M
-is-short-spec = tie.close (tie.spec returns)
+pub is_short_spec : {M : Type 1} → statement M
+is_short_spec = tie.close (tie.spec returns)

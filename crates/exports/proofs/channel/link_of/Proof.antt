@@ -8,13 +8,11 @@ use Rattle.exports.proofs.channel.link_of.Tie as tie
 returns : tie.Need-returns
 unfolding link_of
 returns c =
-    let at-channel = c.before in
-    let at-spacecraft = at-channel.before.before in
     rw
-    (c.edition_of.ensures, at-channel.count-of2.ensures, at-channel.before.entry2.ensures, at-spacecraft.count_of.ensures, at-spacecraft.before.entry.ensures)
+    (c.edition_of.ensures, c.count_of-2.ensures, c.entry-2.ensures, c.count_of.ensures, c.entry.ensures)
 
-pub link-of-spec : {M : Type 1} → statement M
-link-of-spec =
+pub link_of_spec : {M : Type 1} → statement M
+link_of_spec =
     tie.close
     (tie.spec
     (λ c κs. search rules)

@@ -8,13 +8,11 @@ use Rattle.exports.proofs.channel.settings_of.Tie as tie
 returns : tie.Need-returns
 unfolding settings_of
 returns c =
-    let at-zone = c.before.before in
-    let at-link = at-zone.before.before in
     rw
-    (c.octet_of.ensures, c.before.entry5.ensures, at-zone.zone_for.ensures, at-zone.before.entry4.ensures, at-link.link_of.ensures, at-link.before.entry3.ensures, at-link.before.before.entry2.ensures, at-link.before.before.before.entry.ensures)
+    (c.octet_of.ensures, c.entry-2.ensures, c.zone_for.ensures, c.entry.ensures, c.link_of-link.ensures, c.entry-edition.ensures, c.entry-trailer.ensures, c.entry-fill.ensures)
 
-pub settings-of-spec : {M : Type 1} → statement M
-settings-of-spec =
+pub settings_of_spec : {M : Type 1} → statement M
+settings_of_spec =
     tie.close
     (tie.spec
     (λ c κs. search rules)

@@ -7,16 +7,16 @@ use borrow.Author.Rules.{rules}
 use Rattle.exports.proofs.extract.entered_said.Statement.{statement}
 use Rattle.exports.proofs.extract.entered_said.Tie as tie
 
-returns : tie.Need-returns
+returns : tie.Need-returns-in-Refused
 unfolding enter_numbers entered_numbers
-returns c = rw c.before.entered.given.1 refl
+returns c = rw c.in-Refused.is refl
 
-returns-2 : tie.Need-returns-2
+returns-2 : tie.Need-returns-in-Taken
 unfolding enter_numbers entered_numbers
-returns-2 c = rw c.before.before.before.before.before.before.entered2.given.1 refl
+returns-2 c = rw c.in-Taken.is refl
 
-pub entered-said-spec : {M : Type 1} → statement M
-entered-said-spec =
+pub entered_said_spec : {M : Type 1} → statement M
+entered_said_spec =
     tie.close
     (tie.spec
     (λ c. search rules)

@@ -6,28 +6,28 @@ use borrow.Author.Rules.{rules}
 use Rattle.exports.proofs.extract.extractor_numbers.Statement.{statement}
 use Rattle.exports.proofs.extract.extractor_numbers.Tie as tie
 
-returns : tie.Need-returns
+returns : tie.Need-returns-in-Fresh
 unfolding extractor_numbers
-returns c = rw c.enum_told.given.1 refl
+returns c = rw c.in-Fresh.is refl
 
-returns-2 : tie.Need-returns-2
+returns-2 : tie.Need-returns-in-Astray
 unfolding extractor_numbers
-returns-2 c = rw c.before.x.given.1 refl
+returns-2 c = rw c.in-Astray.is refl
 
-returns-3 : tie.Need-returns-3
+returns-3 : tie.Need-returns-in-InStep
 unfolding extractor_numbers
-returns-3 c = rw c.before.x2.given.1 refl
+returns-3 c = rw c.in-InStep.is refl
 
-returns-4 : tie.Need-returns-4
+returns-4 : tie.Need-returns-in-Walking
 unfolding extractor_numbers
-returns-4 c = rw c.before.x3.given.1 refl
+returns-4 c = rw c.in-Walking.is refl
 
-returns-5 : tie.Need-returns-5
+returns-5 : tie.Need-returns-in-Leaving
 unfolding extractor_numbers
-returns-5 c = rw c.before.x4.given.1 refl
+returns-5 c = rw c.in-Leaving.is refl
 
-pub extractor-numbers-spec : {M : Type 1} → statement M
-extractor-numbers-spec =
+pub extractor_numbers_spec : {M : Type 1} → statement M
+extractor_numbers_spec =
     tie.close
     (tie.spec
     (λ c. search rules)

@@ -6,25 +6,23 @@ use borrow.Author.Rules.{rules}
 use Rattle.exports.proofs.extract.itz_show.Statement.{statement}
 use Rattle.exports.proofs.extract.itz_show.Tie as tie
 
-returns : tie.Need-returns
+returns : tie.Need-returns-then-step-answer
 unfolding show_leaves
-returns c = rw c.if1.true refl
+returns c = rw c.if-step-answer.true refl
 
-returns-2 : tie.Need-returns-2
+returns-2 : tie.Need-returns
 unfolding show_leaves
 returns-2 c =
-    let at-put = c.before.before in
-    let at-numbers = at-put.before.before.before in
-    let a = c.before.before.before.before.before.before.before.before.before.before.before.args in
-    rw (at-numbers.before.if1.false, at-put.put.ensures.left, at-numbers.show_numbers.ensures a.frame.now a.store.now refl refl) refl
+    let a = c.args in
+    rw (c.if-step-answer.false, c.put.ensures.left, c.show_numbers-numbers.ensures a.frame.now a.store.now refl refl) refl
 
-pub itz-show-spec : {M : Type 1} → statement M
-itz-show-spec =
+pub itz_show_spec : {M : Type 1} → statement M
+itz_show_spec =
     tie.close
     (tie.spec
     returns
     (λ c κs. search rules)
     (λ c. search rules)
     (λ c κs. search rules)
-    (λ c. c.before.answer.given)
+    (λ c. c.answer-1.given)
     returns-2)

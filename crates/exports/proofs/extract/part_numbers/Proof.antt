@@ -6,13 +6,13 @@ use borrow.Author.Rules.{rules}
 use Rattle.exports.proofs.extract.part_numbers.Statement.{statement}
 use Rattle.exports.proofs.extract.part_numbers.Tie as tie
 
-returns : tie.Need-returns
+returns : tie.Need-returns-then-within
 unfolding part_numbers
-returns c = rw (sym c.before.within.ensures ∙ c.if1.true) refl
+returns c = rw (sym c.within.ensures ∙ c.if-within.true) refl
 
-returns-2 : tie.Need-returns-2
+returns-2 : tie.Need-returns-else-within
 unfolding part_numbers
-returns-2 c = rw (sym c.before.within.ensures ∙ c.if1.false) refl
+returns-2 c = rw (sym c.within.ensures ∙ c.if-within.false) refl
 
-pub part-numbers-spec : {M : Type 1} → statement M
-part-numbers-spec = tie.close (tie.spec (λ c κs. search rules) returns returns-2)
+pub part_numbers_spec : {M : Type 1} → statement M
+part_numbers_spec = tie.close (tie.spec (λ c κs. search rules) returns returns-2)

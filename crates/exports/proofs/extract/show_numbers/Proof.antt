@@ -7,23 +7,23 @@ use borrow.Author.Rules.{rules}
 use Rattle.exports.proofs.extract.show_numbers.Statement.{statement}
 use Rattle.exports.proofs.extract.show_numbers.Tie as tie
 
-returns : tie.Need-returns
+returns : tie.Need-returns-then-place-eq-IN_FRAME
 unfolding show_numbers
 returns c = λ f os e d.
-    rw (← e, ← d, ← c.before.before.before.before.entry.ensures, ← c.before.before.before.entry2.ensures, ← c.before.before.entry3.ensures, eq-eqb _ _ c.before.if1.true) c.part_numbers.ensures
+    rw (← e, ← d, ← c.entry-place.ensures, ← c.entry-start.ensures, ← c.entry-size.ensures, eq-eqb _ _ c.if-place-eq-IN_FRAME.true) c.part_numbers.ensures
 
-returns-2 : tie.Need-returns-2
+returns-2 : tie.Need-returns-then-place-eq-IN_STORE
 unfolding show_numbers
 returns-2 c = λ f os e d.
-    rw (← e, ← d, ← c.before.before.before.before.before.entry.ensures, ← c.before.before.before.before.entry2.ensures, ← c.before.before.before.entry3.ensures, ne_eqb _ _ c.before.before.if1.false, eq-eqb _ _ c.before.if2.true) c.part-numbers2.ensures
+    rw (← e, ← d, ← c.entry-place.ensures, ← c.entry-start.ensures, ← c.entry-size.ensures, ne_eqb _ _ c.if-place-eq-IN_FRAME.false, eq-eqb _ _ c.if-place-eq-IN_STORE.true) c.part_numbers-then-place-eq-IN_STORE.ensures
 
-returns-3 : tie.Need-returns-3
+returns-3 : tie.Need-returns
 unfolding show_numbers
 returns-3 c = λ f os e d.
-    rw (← c.before.before.before.before.entry.ensures, ne_eqb _ _ c.before.if1.false, ne_eqb _ _ c.if2.false) refl
+    rw (← c.entry-place.ensures, ne_eqb _ _ c.if-place-eq-IN_FRAME.false, ne_eqb _ _ c.if-place-eq-IN_STORE.false) refl
 
-pub show-numbers-spec : {M : Type 1} → statement M
-show-numbers-spec =
+pub show_numbers_spec : {M : Type 1} → statement M
+show_numbers_spec =
     tie.close
     (tie.spec
     (λ c κs. search rules)

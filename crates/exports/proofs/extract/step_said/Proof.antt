@@ -7,28 +7,28 @@ use borrow.Author.Rules.{rules}
 use Rattle.exports.proofs.extract.step_said.Statement.{statement}
 use Rattle.exports.proofs.extract.step_said.Tie as tie
 
-returns : tie.Need-returns
+returns : tie.Need-returns-in-Refused
 unfolding step_numbers found_numbers
-returns c = λ frame store. rw c.before.found.given.1 refl
+returns c = λ frame store. rw c.in-Refused.is refl
 
-returns-2 : tie.Need-returns-2
+returns-2 : tie.Need-returns-in-InFrame
 unfolding step_numbers found_numbers
-returns-2 c = λ frame store. rw (c.before.before.found2.given.1, c.packet-number.ensures) refl
+returns-2 c = λ frame store. rw (c.in-InFrame.is, c.packet_number.ensures) refl
 
-returns-3 : tie.Need-returns-3
+returns-3 : tie.Need-returns-in-InStore
 unfolding step_numbers found_numbers
-returns-3 c = λ frame store. rw (c.before.before.found3.given.1, c.packet-number2.ensures) refl
+returns-3 c = λ frame store. rw (c.in-InStore.is, c.packet_number-in-InStore.ensures) refl
 
-returns-4 : tie.Need-returns-4
+returns-4 : tie.Need-returns-in-Damaged
 unfolding step_numbers found_numbers
-returns-4 c = λ frame store. rw c.before.found4.given.1 refl
+returns-4 c = λ frame store. rw c.in-Damaged.is refl
 
-returns-5 : tie.Need-returns-5
+returns-5 : tie.Need-returns-in-Spent
 unfolding step_numbers found_numbers
-returns-5 c = λ frame store. rw c.enum_told.given.1 refl
+returns-5 c = λ frame store. rw c.in-Spent.is refl
 
-pub step-said-spec : {M : Type 1} → statement M
-step-said-spec =
+pub step_said_spec : {M : Type 1} → statement M
+step_said_spec =
     tie.close
     (tie.spec
     (λ c. search rules)

@@ -7,20 +7,20 @@ use borrow.Author.Rules.{rules}
 use Rattle.exports.proofs.judging.closed_said.Statement.{statement}
 use Rattle.exports.proofs.judging.closed_said.Tie as tie
 
-returns : tie.Need-returns
+returns : tie.Need-returns-in-Refused
 unfolding close_numbers close_says
-returns c = rw c.before.closed.given.1 refl
+returns c = rw c.in-Refused.is refl
 
-returns-2 : tie.Need-returns-2
+returns-2 : tie.Need-returns-in-Pass
 unfolding close_numbers close_says
-returns-2 c = rw c.enum_told.given.1 refl
+returns-2 c = rw c.in-Pass.is refl
 
-returns-3 : tie.Need-returns-3
+returns-3 : tie.Need-returns-in-Fault
 unfolding close_numbers close_says
-returns-3 c = rw c.before.closed2.given.1 refl
+returns-3 c = rw c.in-Fault.is refl
 
-pub closed-said-spec : {M : Type 1} → statement M
-closed-said-spec =
+pub closed_said_spec : {M : Type 1} → statement M
+closed_said_spec =
     tie.close
     (tie.spec
     (λ c. search rules)

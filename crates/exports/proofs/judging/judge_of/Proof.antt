@@ -6,14 +6,11 @@ use Rattle.exports.proofs.judging.judge_of.Tie as tie
 
 returns : tie.Need-returns
 returns c =
-    let at_held = c.before.before in
-    let at_last = at_held.before in
-    let at-tally = at_last.before.before in
     rw
-    (c.judge_with.ensures, c.before.entry4.ensures, at_held.entry3.ensures, at_last.count-of2.ensures, at_last.before.entry2.ensures, at-tally.count_of.ensures, at-tally.before.entry.ensures)
+    (c.judge_with.ensures, c.entry-3.ensures, c.entry-held.ensures, c.count_of-last.ensures, c.entry-2.ensures, c.count_of-tally.ensures, c.entry.ensures)
 
-pub judge-of-spec : {M : Type 1} → statement M
-judge-of-spec =
+pub judge_of_spec : {M : Type 1} → statement M
+judge_of_spec =
     tie.close
     (tie.spec
     (λ c κs. search rules)

@@ -10,13 +10,11 @@ use Rattle.exports.proofs.judging.keep_judged.Tie as tie
 
 returns : tie.Need-returns
 returns c =
-    let at-keep = c.before.before in
-    let at-numbers = at-keep.before.before.before in
-    let a = at-numbers.before.before.before.args in
-    (refl, at-keep.keep.ensures.1 ∙ ap (λ (state : List ℕ). kept a.judged.refusal a.«record».now state) at-numbers.judge_numbers.ensures)
+    let a = c.args in
+    (refl, c.keep.ensures.1 ∙ ap (λ (state : List ℕ). kept a.judged.refusal a.«record».now state) c.judge_numbers-state.ensures)
 
-pub keep-judged-spec : {M : Type 1} → statement M
-keep-judged-spec =
+pub keep_judged_spec : {M : Type 1} → statement M
+keep_judged_spec =
     tie.close
     (tie.spec
     (λ c. search rules)

@@ -6,7 +6,7 @@ use Rattle.exports.proofs.lent.leave.Statement.{statement}
 use Rattle.exports.proofs.lent.leave.Tie as tie
 
 returns : tie.Need-returns
-returns c = rw (c.before.before.before.before.before.before.keep.ensures.1, c.before.before.tell.ensures.0, c.before.before.tell.ensures.1) refl
+returns c = rw (c.keep.ensures.1, c.tell.ensures.0, c.tell.ensures.1) refl
 
 pub leave_spec : {M : Type 1} → statement M
 leave_spec =

@@ -16,11 +16,11 @@ behind said = take_all (length said - 1) (drop 1 said) (simp length-drop (omega 
 
 returns : tie.Need-returns
 returns c =
-    let a = c.before.before.before.before.before.before.before.before.args in
-    (search rules, c.before.before.before.put.ensures.left ∙ ap (told a.answer.now) (behind a.said.now))
+    let a = c.args in
+    (search rules, c.put.ensures.left ∙ ap (told a.answer.now) (behind a.said.now))
 
-pub tell-spec : {M : Type 1} → statement M
-tell-spec =
+pub tell_spec : {M : Type 1} → statement M
+tell_spec =
     tie.close
     (tie.spec
     (λ c. search rules)

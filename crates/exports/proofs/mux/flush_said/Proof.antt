@@ -7,16 +7,16 @@ use borrow.Author.Rules.{rules}
 use Rattle.exports.proofs.mux.flush_said.Statement.{statement}
 use Rattle.exports.proofs.mux.flush_said.Tie as tie
 
-returns : tie.Need-returns
+returns : tie.Need-returns-in-Refused
 unfolding flush_numbers answers
-returns c = λ frame. rw c.before.reply.given.1 refl
+returns c = λ frame. rw c.in-Refused.is refl
 
-returns-2 : tie.Need-returns-2
+returns-2 : tie.Need-returns-in-Done
 unfolding flush_numbers answers
-returns-2 c = λ frame. rw (c.before.before.reply2.given.1, c.flush-number.ensures) refl
+returns-2 c = λ frame. rw (c.in-Done.is, c.flush_number.ensures) refl
 
-pub flush-said-spec : {M : Type 1} → statement M
-flush-said-spec =
+pub flush_said_spec : {M : Type 1} → statement M
+flush_said_spec =
     tie.close
     (tie.spec
     (λ c. search rules)

@@ -6,20 +6,17 @@ use borrow.Author.Rules.{rules}
 use Rattle.exports.proofs.mux.itz_mux_begin.Statement.{statement}
 use Rattle.exports.proofs.mux.itz_mux_begin.Tie as tie
 
-returns : tie.Need-returns
+returns : tie.Need-returns-then-record-lt-RECORD_ENTRIES
 unfolding begin_leaves
-returns c = rw (lt-ltb _ _ c.if1.true)
+returns c = rw (lt-ltb _ _ c.if-record-lt-RECORD_ENTRIES.true)
 
-returns-2 : tie.Need-returns-2
+returns-2 : tie.Need-returns
 unfolding begin_leaves
 returns-2 c =
-    let at-put = c.before.before in
-    let at-numbers = at-put.before.before.before in
-    let at-begin = at-numbers.before in
-    rw (le-ltb _ _ at-begin.before.if1.false, at-put.put.ensures.left, at-numbers.mux_numbers.ensures, at-begin.begin.ensures)
+    rw (le-ltb _ _ c.if-record-lt-RECORD_ENTRIES.false, c.put.ensures.left, c.mux_numbers-numbers.ensures, c.begin.ensures)
 
-pub itz-mux-begin-spec : {M : Type 1} → statement M
-itz-mux-begin-spec =
+pub itz_mux_begin_spec : {M : Type 1} → statement M
+itz_mux_begin_spec =
     tie.close
     (tie.spec
     returns
@@ -27,5 +24,5 @@ itz-mux-begin-spec =
     (λ c κs. search rules)
     (λ c. search rules)
     (λ c κs. search rules)
-    (λ c. c.before.«record».given)
+    (λ c. c.record-1.given)
     returns-2)

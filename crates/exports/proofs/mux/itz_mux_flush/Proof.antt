@@ -8,30 +8,22 @@ use borrow.Author.Rules.{rules}
 use Rattle.exports.proofs.mux.itz_mux_flush.Statement.{statement}
 use Rattle.exports.proofs.mux.itz_mux_flush.Tie as tie
 
-returns : tie.Need-returns
+returns : tie.Need-returns-then-is_short
 returns c =
-    let a = c.before.before.before.before.before.before.args in
+    let a = c.args in
     mux_short to_flush 1 flush_numbers a.settings.now a.«record».now a.frame.now a.answer.now
-    (sym c.before.is_short.ensures ∙ c.if1.true)
+    (sym c.is_short.ensures ∙ c.if-is_short.true)
 
-returns-2 : tie.Need-returns-2
+returns-2 : tie.Need-returns
 returns-2 c =
-    let at-leave = c.before.before.before.before in
-    let at-said = at-leave.before.before.before.before.before in
-    let at_next = at-said.before in
-    let at_call = at_next.before.before.before in
-    let at-record = at_call.before.before in
-    let at-settings = at-record.before.before in
-    let at-if1 = at-settings.before in
-    let at-short = at-if1.before in
-    let a = at-short.before.before.before.before.before.args in
+    let a = c.args in
     mux_done to_flush 1 flush_numbers a.settings.now a.«record».now a.frame.now a.answer.now
-    at-settings.settings_of.result at-record.mux_of.result at_call.flush.result
-    (sym at-short.is_short.ensures ∙ at-if1.if1.false) at-settings.settings_of.ensures at-record.mux_of.ensures at_call.flush.ensures
-    at_next.next-mux.ensures at-said.flush_said.ensures at-leave.leave.ensures
+    c.settings_of.result c.mux_of.result c.flush-reply.result
+    (sym c.is_short.ensures ∙ c.if-is_short.false) c.settings_of.ensures c.mux_of.ensures c.flush-reply.ensures
+    c.next_mux-state.ensures c.flush_said-said.ensures c.leave.ensures
 
-pub itz-mux-flush-spec : {M : Type 1} → statement M
-itz-mux-flush-spec =
+pub itz_mux_flush_spec : {M : Type 1} → statement M
+itz_mux_flush_spec =
     tie.close
     (tie.spec
     (λ c κs. search rules)
@@ -44,7 +36,7 @@ itz-mux-flush-spec =
     (λ c. search rules)
     (λ c. search rules)
     (λ c κs. search rules)
-    (λ c. c.before.before.before.«record».given)
-    (λ c. c.before.before.before.before.before.before.before.before.before.before.before.before.frame.given)
-    (λ c. c.before.answer.given)
+    (λ c. c.record-1.given)
+    (λ c. c.frame-1.given)
+    (λ c. c.answer-1.given)
     returns-2)

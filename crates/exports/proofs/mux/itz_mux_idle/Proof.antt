@@ -12,31 +12,23 @@ use borrow.Author.Rules.{rules}
 use Rattle.exports.proofs.mux.itz_mux_idle.Statement.{statement}
 use Rattle.exports.proofs.mux.itz_mux_idle.Tie as tie
 
-returns : tie.Need-returns
+returns : tie.Need-returns-then-is_short
 returns c =
-    let a = c.before.before.before.before.before.args in
+    let a = c.args in
     mux_short to_idle 0 no_numbers a.settings.now a.«record».now a.frame.now []
-    (sym c.before.is_short.ensures ∙ c.if1.true)
+    (sym c.is_short.ensures ∙ c.if-is_short.true)
 
-returns-2 : tie.Need-returns-2
+returns-2 : tie.Need-returns
 unfolding laid over
 returns-2 c =
-    let at-keep = c.before.before in
-    let at-said = at-keep.before.before.before in
-    let at_next = at-said.before in
-    let at_call = at_next.before.before.before in
-    let at-record = at_call.before.before in
-    let at-settings = at-record.before.before in
-    let at-if1 = at-settings.before in
-    let at-short = at-if1.before in
-    let a = at-short.before.before.before.before.args in
+    let a = c.args in
     mux_done to_idle 0 no_numbers a.settings.now a.«record».now a.frame.now []
-    at-settings.settings_of.result at-record.mux_of.result at_call.idle_zone.result
-    (sym at-short.is_short.ensures ∙ at-if1.if1.false) at-settings.settings_of.ensures at-record.mux_of.ensures at_call.idle_zone.ensures
-    at_next.next-mux.ensures (λ frame. ap (λ (ns : List ℕ). get_or ns 0 0 ∷ []) (at-said.put-said.ensures frame)) (rw at-keep.keep.ensures.1 refl)
+    c.settings_of.result c.mux_of.result c.idle_zone-reply.result
+    (sym c.is_short.ensures ∙ c.if-is_short.false) c.settings_of.ensures c.mux_of.ensures c.idle_zone-reply.ensures
+    c.next_mux-state.ensures (λ frame. ap (λ (ns : List ℕ). get_or ns 0 0 ∷ []) (c.put_said.ensures frame)) (rw c.keep.ensures.1 refl)
 
-pub itz-mux-idle-spec : {M : Type 1} → statement M
-itz-mux-idle-spec =
+pub itz_mux_idle_spec : {M : Type 1} → statement M
+itz_mux_idle_spec =
     tie.close
     (tie.spec
     (λ c κs. search rules)
@@ -49,6 +41,6 @@ itz-mux-idle-spec =
     (λ c. search rules)
     (λ c. search rules)
     (λ c κs. search rules)
-    (λ c. c.before.«record».given)
-    (λ c. c.before.before.before.before.before.before.before.before.frame.given)
+    (λ c. c.record-1.given)
+    (λ c. c.frame-1.given)
     returns-2)

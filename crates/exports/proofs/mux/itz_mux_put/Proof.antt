@@ -8,30 +8,22 @@ use borrow.Author.Rules.{rules}
 use Rattle.exports.proofs.mux.itz_mux_put.Statement.{statement}
 use Rattle.exports.proofs.mux.itz_mux_put.Tie as tie
 
-returns : tie.Need-returns
+returns : tie.Need-returns-then-is_short
 returns c =
-    let a = c.before.before.before.before.before.before.before.args in
+    let a = c.args in
     mux_short (to_put a.packet.now) 3 put_numbers a.settings.now a.«record».now a.frame.now a.answer.now
-    (sym c.before.is_short.ensures ∙ c.if1.true)
+    (sym c.is_short.ensures ∙ c.if-is_short.true)
 
-returns-2 : tie.Need-returns-2
+returns-2 : tie.Need-returns
 returns-2 c =
-    let at-leave = c.before.before.before.before in
-    let at-said = at-leave.before.before.before.before.before in
-    let at_next = at-said.before in
-    let at_call = at_next.before.before.before in
-    let at-record = at_call.before.before in
-    let at-settings = at-record.before.before in
-    let at-if1 = at-settings.before in
-    let at-short = at-if1.before in
-    let a = at-short.before.before.before.before.before.before.args in
+    let a = c.args in
     mux_done (to_put a.packet.now) 3 put_numbers a.settings.now a.«record».now a.frame.now a.answer.now
-    at-settings.settings_of.result at-record.mux_of.result at_call.put.result
-    (sym at-short.is_short.ensures ∙ at-if1.if1.false) at-settings.settings_of.ensures at-record.mux_of.ensures at_call.put.ensures
-    at_next.next-mux.ensures at-said.put-said.ensures at-leave.leave.ensures
+    c.settings_of.result c.mux_of.result c.put-reply.result
+    (sym c.is_short.ensures ∙ c.if-is_short.false) c.settings_of.ensures c.mux_of.ensures c.put-reply.ensures
+    c.next_mux-state.ensures c.put_said-said.ensures c.leave.ensures
 
-pub itz-mux-put-spec : {M : Type 1} → statement M
-itz-mux-put-spec =
+pub itz_mux_put_spec : {M : Type 1} → statement M
+itz_mux_put_spec =
     tie.close
     (tie.spec
     (λ c κs. search rules)
@@ -44,7 +36,7 @@ itz-mux-put-spec =
     (λ c. search rules)
     (λ c. search rules)
     (λ c κs. search rules)
-    (λ c. c.before.before.before.«record».given)
-    (λ c. c.before.before.before.before.before.before.before.before.before.before.before.before.frame.given)
-    (λ c. c.before.answer.given)
+    (λ c. c.record-1.given)
+    (λ c. c.frame-1.given)
+    (λ c. c.answer-1.given)
     returns-2)

@@ -10,5 +10,5 @@ returns : tie.Need-returns
 unfolding mux_numbers
 returns c = refl
 
-pub mux-numbers-spec : {M : Type 1} → statement M
-mux-numbers-spec = tie.close (tie.spec (λ c. search rules) returns)
+pub mux_numbers_spec : {M : Type 1} → statement M
+mux_numbers_spec = tie.close (tie.spec (λ c. search rules) returns)

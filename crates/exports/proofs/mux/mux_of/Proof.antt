@@ -8,14 +8,11 @@ use Rattle.exports.proofs.mux.mux_of.Tie as tie
 returns : tie.Need-returns
 unfolding mux_of
 returns c =
-    let at_first = c.before in
-    let at-filled = at_first.before in
-    let at_count = at-filled.before in
     rw
-    (c.entry4.ensures, at_first.entry3.ensures, at-filled.entry2.ensures, at_count.count_of.ensures, at_count.before.entry.ensures)
+    (c.entry-4.ensures, c.entry-3.ensures, c.entry-2.ensures, c.count_of.ensures, c.entry.ensures)
 
-pub mux-of-spec : {M : Type 1} → statement M
-mux-of-spec =
+pub mux_of_spec : {M : Type 1} → statement M
+mux_of_spec =
     tie.close
     (tie.spec
     (λ c κs. search rules)

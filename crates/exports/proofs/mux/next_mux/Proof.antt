@@ -5,16 +5,16 @@ use borrow.Author.Rules.{rules}
 use Rattle.exports.proofs.mux.next_mux.Statement.{statement}
 use Rattle.exports.proofs.mux.next_mux.Tie as tie
 
-returns : tie.Need-returns
+returns : tie.Need-returns-in-Refused
 unfolding answers
-returns c = λ frame. rw c.before.before.reply.given.1 c.mux_numbers.ensures
+returns c = λ frame. rw c.in-Refused.is c.mux_numbers.ensures
 
-returns-2 : tie.Need-returns-2
+returns-2 : tie.Need-returns-in-Done
 unfolding answers
-returns-2 c = λ frame. rw c.before.before.reply2.given.1 c.mux-numbers2.ensures
+returns-2 c = λ frame. rw c.in-Done.is c.mux_numbers-in-Done.ensures
 
-pub next-mux-spec : {M : Type 1} → statement M
-next-mux-spec =
+pub next_mux_spec : {M : Type 1} → statement M
+next_mux_spec =
     tie.close
     (tie.spec
     (λ c. search rules)

@@ -7,16 +7,16 @@ use borrow.Author.Rules.{rules}
 use Rattle.exports.proofs.mux.put_said.Statement.{statement}
 use Rattle.exports.proofs.mux.put_said.Tie as tie
 
-returns : tie.Need-returns
+returns : tie.Need-returns-in-Refused
 unfolding put_numbers answers
-returns c = λ frame. rw c.before.reply.given.1 refl
+returns c = λ frame. rw c.in-Refused.is refl
 
-returns-2 : tie.Need-returns-2
+returns-2 : tie.Need-returns-in-Done
 unfolding put_numbers answers
-returns-2 c = λ frame. rw (c.before.before.before.reply2.given.1, c.before.flag.ensures, c.flag2.ensures) refl
+returns-2 c = λ frame. rw (c.in-Done.is, c.flag.ensures, c.flag-in-Done.ensures) refl
 
-pub put-said-spec : {M : Type 1} → statement M
-put-said-spec =
+pub put_said_spec : {M : Type 1} → statement M
+put_said_spec =
     tie.close
     (tie.spec
     (λ c. search rules)

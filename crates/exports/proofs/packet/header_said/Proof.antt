@@ -7,24 +7,24 @@ use borrow.Author.Rules.{rules}
 use Rattle.exports.proofs.packet.header_said.Statement.{statement}
 use Rattle.exports.proofs.packet.header_said.Tie as tie
 
-returns : tie.Need-returns
+returns : tie.Need-returns-in-Refused
 unfolding header_numbers answer
-returns c = rw c.before.header.given.1 refl
+returns c = rw c.in-Refused.is refl
 
-returns-2 : tie.Need-returns-2
+returns-2 : tie.Need-returns-in-More
 unfolding header_numbers answer
-returns-2 c = rw c.enum_told.given.1 refl
+returns-2 c = rw c.in-More.is refl
 
-returns-3 : tie.Need-returns-3
+returns-3 : tie.Need-returns-in-Damaged
 unfolding header_numbers answer
-returns-3 c = rw c.before.header2.given.1 refl
+returns-3 c = rw c.in-Damaged.is refl
 
-returns-4 : tie.Need-returns-4
+returns-4 : tie.Need-returns-in-Whole
 unfolding header_numbers answer
-returns-4 c = rw (c.before.before.before.header3.given.1, c.before.kind_number.ensures, c.flag.ensures) refl
+returns-4 c = rw (c.in-Whole.is, c.kind_number.ensures, c.flag.ensures) refl
 
-pub header-said-spec : {M : Type 1} → statement M
-header-said-spec =
+pub header_said_spec : {M : Type 1} → statement M
+header_said_spec =
     tie.close
     (tie.spec
     (λ c. search rules)

@@ -6,25 +6,23 @@ use borrow.Author.Rules.{rules}
 use Rattle.exports.proofs.packet.itz_unit_part.Statement.{statement}
 use Rattle.exports.proofs.packet.itz_unit_part.Tie as tie
 
-returns : tie.Need-returns
+returns : tie.Need-returns-then-unwrapped-answer
 unfolding unit_leaves
-returns c = rw c.if1.true refl
+returns c = rw c.if-unwrapped-answer.true refl
 
-returns-2 : tie.Need-returns-2
+returns-2 : tie.Need-returns
 unfolding unit_leaves
 returns-2 c =
-    let at-put = c.before.before in
-    let at-numbers = at-put.before.before.before in
-    let a = c.before.before.before.before.before.before.before.before.before.before.args in
-    rw (at-numbers.before.if1.false, at-put.put.ensures.left, at-numbers.unit_numbers.ensures a.packet.now refl) refl
+    let a = c.args in
+    rw (c.if-unwrapped-answer.false, c.put.ensures.left, c.unit_numbers-numbers.ensures a.packet.now refl) refl
 
-pub itz-unit-part-spec : {M : Type 1} → statement M
-itz-unit-part-spec =
+pub itz_unit_part_spec : {M : Type 1} → statement M
+itz_unit_part_spec =
     tie.close
     (tie.spec
     returns
     (λ c κs. search rules)
     (λ c. search rules)
     (λ c κs. search rules)
-    (λ c. c.before.answer.given)
+    (λ c. c.answer-1.given)
     returns-2)

@@ -6,21 +6,18 @@ use borrow.Author.Rules.{rules}
 use Rattle.exports.proofs.packet.itz_unwrap.Statement.{statement}
 use Rattle.exports.proofs.packet.itz_unwrap.Tie as tie
 
-returns : tie.Need-returns
+returns : tie.Need-returns-then-answer-lt-UNWRAPPED_ENTRIES
 unfolding unwrap_leaves
-returns c = rw (lt-ltb _ _ c.if1.true)
+returns c = rw (lt-ltb _ _ c.if-answer-lt-UNWRAPPED_ENTRIES.true)
 
-returns-2 : tie.Need-returns-2
+returns-2 : tie.Need-returns
 unfolding unwrap_leaves
 returns-2 c =
-    let at-tell = c.before.before in
-    let at-said = at-tell.before.before.before in
-    let at_call = at-said.before in
     rw
-    (le-ltb _ _ at_call.before.if1.false, at-tell.tell.ensures.0, at-tell.tell.ensures.1, at-said.unwrapped-said.ensures, at_call.unwrap.ensures)
+    (le-ltb _ _ c.if-answer-lt-UNWRAPPED_ENTRIES.false, c.tell.ensures.0, c.tell.ensures.1, c.unwrapped_said-said.ensures, c.unwrap.ensures)
 
-pub itz-unwrap-spec : {M : Type 1} → statement M
-itz-unwrap-spec =
+pub itz_unwrap_spec : {M : Type 1} → statement M
+itz_unwrap_spec =
     tie.close
     (tie.spec
     returns
@@ -28,5 +25,5 @@ itz-unwrap-spec =
     (λ c κs. search rules)
     (λ c. search rules)
     (λ c κs. search rules)
-    (λ c. c.before.answer.given)
+    (λ c. c.answer-1.given)
     returns-2)

@@ -12,24 +12,19 @@ use borrow.Author.Rules.{rules}
 use Rattle.exports.proofs.packet.itz_well_formed.Statement.{statement}
 use Rattle.exports.proofs.packet.itz_well_formed.Tie as tie
 
-returns : tie.Need-returns
+returns : tie.Need-returns-then-answer-lt-FORMED_ENTRIES
 unfolding formed_leaves
-returns c = rw (lt-ltb _ _ c.if1.true)
+returns c = rw (lt-ltb _ _ c.if-answer-lt-FORMED_ENTRIES.true)
 
-returns-2 : tie.Need-returns-2
+returns-2 : tie.Need-returns
 returns-2 c =
-    let at-put = c.before.before in
-    let at-number = at-put.before.before.before in
-    let at-formed = at-number.before in
-    let at-said = at-formed.before in
-    let at_call = at-said.before in
-    let a = at_call.before.before.before.before.args in
-    formed_done a.limit a.packet.now a.answer.now at_call.before.if1.false
-    (ap (λ (ns : List ℕ). get_or ns 0 0) at-said.header-said.ensures ∙ ap (λ (x : Reading). x.refusal) at_call.read_header.ensures)
-    at-formed.well-formed-2.ensures at-number.formed-number.ensures at-put.put.ensures.left
+    let a = c.args in
+    formed_done a.limit a.packet.now a.answer.now c.if-answer-lt-FORMED_ENTRIES.false
+    (ap (λ (ns : List ℕ). get_or ns 0 0) c.header_said.ensures ∙ ap (λ (x : Reading). x.refusal) c.read_header.ensures)
+    c.well_formed-formed.ensures c.formed_number.ensures c.put.ensures.left
 
-pub itz-well-formed-spec : {M : Type 1} → statement M
-itz-well-formed-spec =
+pub itz_well_formed_spec : {M : Type 1} → statement M
+itz_well_formed_spec =
     tie.close
     (tie.spec
     returns
@@ -40,5 +35,5 @@ itz-well-formed-spec =
     (λ c κs. search rules)
     (λ c. search rules)
     (λ c κs. search rules)
-    (λ c. c.before.answer.given)
+    (λ c. c.answer-1.given)
     returns-2)

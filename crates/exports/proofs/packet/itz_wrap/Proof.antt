@@ -8,25 +8,20 @@ use borrow.Author.Rules.{rules}
 use Rattle.exports.proofs.packet.itz_wrap.Statement.{statement}
 use Rattle.exports.proofs.packet.itz_wrap.Tie as tie
 
-returns : tie.Need-returns
+returns : tie.Need-returns-then-answer-lt-WRAPPED_ENTRIES
 unfolding wrap_leaves
-returns c = rw (lt-ltb _ _ c.if1.true)
+returns c = rw (lt-ltb _ _ c.if-answer-lt-WRAPPED_ENTRIES.true)
 
-returns-2 : tie.Need-returns-2
+returns-2 : tie.Need-returns
 returns-2 c =
-    let at-tell = c.before.before in
-    let at-said = at-tell.before.before.before in
-    let at-wrap = at-said.before.before.before in
-    let at-octets = at-wrap.before.before in
-    let at-if1 = at-octets.before.before in
-    let a = at-if1.before.before.before.before.args in
-    let out = at-wrap.wrap.new.1.1.1.1.0 in
-    rw (at-tell.tell.ensures.0, at-tell.tell.ensures.1, at-said.wrapped-said.ensures out)
-    (wrap_done a.limit a.protocol a.extension a.«data».now a.packet.now a.answer.now _ out at-if1.if1.false
-    (rw (at-octets.before.octet_of.ensures, at-octets.octet-of2.ensures) at at-wrap.wrap.ensures))
+    let a = c.args in
+    let out = c.wrap.new.out in
+    rw (c.tell.ensures.0, c.tell.ensures.1, c.wrapped_said-said.ensures out)
+    (wrap_done a.limit a.protocol a.extension a.«data».now a.packet.now a.answer.now _ out c.if-answer-lt-WRAPPED_ENTRIES.false
+    (rw (c.octet_of-protocol.ensures, c.octet_of-extension.ensures) at c.wrap.ensures))
 
-pub itz-wrap-spec : {M : Type 1} → statement M
-itz-wrap-spec =
+pub itz_wrap_spec : {M : Type 1} → statement M
+itz_wrap_spec =
     tie.close
     (tie.spec
     returns
@@ -36,6 +31,6 @@ itz-wrap-spec =
     (λ c κs. search rules)
     (λ c. search rules)
     (λ c κs. search rules)
-    (λ c. c.before.before.before.before.before.before.before.packet.given)
-    (λ c. c.before.answer.given)
+    (λ c. c.packet-1.given)
+    (λ c. c.answer-1.given)
     returns-2)

@@ -7,13 +7,13 @@ use borrow.Author.Rules.{rules}
 use Rattle.exports.proofs.packet.kind_number.Statement.{statement}
 use Rattle.exports.proofs.packet.kind_number.Tie as tie
 
-returns : tie.Need-returns
+returns : tie.Need-returns-in-Space
 unfolding kind_number version_of
-returns c = rw c.enum_told.given.1 refl
+returns c = rw c.in-Space.is refl
 
-returns-2 : tie.Need-returns-2
+returns-2 : tie.Need-returns-in-Encapsulation
 unfolding kind_number version_of
-returns-2 c = rw c.enum-told2.given.1 refl
+returns-2 c = rw c.in-Encapsulation.is refl
 
-pub kind-number-spec : {M : Type 1} → statement M
-kind-number-spec = tie.close (tie.spec (λ c. search rules) (λ c. search rules) returns returns-2)
+pub kind_number_spec : {M : Type 1} → statement M
+kind_number_spec = tie.close (tie.spec (λ c. search rules) (λ c. search rules) returns returns-2)

@@ -6,14 +6,14 @@ use borrow.Author.Rules.{rules}
 use Rattle.exports.proofs.packet.unit_numbers.Statement.{statement}
 use Rattle.exports.proofs.packet.unit_numbers.Tie as tie
 
-returns : tie.Need-returns
+returns : tie.Need-returns-then-within
 unfolding unit_numbers
-returns c = λ packet e. rw (← e, ← c.before.before.before.entry.ensures, ← c.before.before.entry2.ensures, sym c.before.within.ensures ∙ c.if1.true) refl
+returns c = λ packet e. rw (← e, ← c.entry-start.ensures, ← c.entry-size.ensures, sym c.within.ensures ∙ c.if-within.true) refl
 
-returns-2 : tie.Need-returns-2
+returns-2 : tie.Need-returns-else-within
 unfolding unit_numbers
-returns-2 c = λ packet e. rw (← e, ← c.before.before.before.entry.ensures, ← c.before.before.entry2.ensures, sym c.before.within.ensures ∙ c.if1.false) refl
+returns-2 c = λ packet e. rw (← e, ← c.entry-start.ensures, ← c.entry-size.ensures, sym c.within.ensures ∙ c.if-within.false) refl
 
-pub unit-numbers-spec : {M : Type 1} → statement M
-unit-numbers-spec =
+pub unit_numbers_spec : {M : Type 1} → statement M
+unit_numbers_spec =
     tie.close (tie.spec (λ c κs. search rules) (λ c κs. search rules) (λ c κs. search rules) returns returns-2)

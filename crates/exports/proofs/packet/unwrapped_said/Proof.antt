@@ -7,16 +7,16 @@ use borrow.Author.Rules.{rules}
 use Rattle.exports.proofs.packet.unwrapped_said.Statement.{statement}
 use Rattle.exports.proofs.packet.unwrapped_said.Tie as tie
 
-returns : tie.Need-returns
+returns : tie.Need-returns-in-Refused
 unfolding unwrap_numbers unwraps
-returns c = rw c.before.unwrapped.given.1 refl
+returns c = rw c.in-Refused.is refl
 
-returns-2 : tie.Need-returns-2
+returns-2 : tie.Need-returns-in-Unit
 unfolding unwrap_numbers unwraps
-returns-2 c = rw c.before.unwrapped2.given.1 refl
+returns-2 c = rw c.in-Unit.is refl
 
-pub unwrapped-said-spec : {M : Type 1} → statement M
-unwrapped-said-spec =
+pub unwrapped_said_spec : {M : Type 1} → statement M
+unwrapped_said_spec =
     tie.close
     (tie.spec
     (λ c. search rules)

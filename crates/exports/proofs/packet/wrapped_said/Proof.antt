@@ -7,13 +7,13 @@ use borrow.Author.Rules.{rules}
 use Rattle.exports.proofs.packet.wrapped_said.Statement.{statement}
 use Rattle.exports.proofs.packet.wrapped_said.Tie as tie
 
-returns : tie.Need-returns
+returns : tie.Need-returns-in-Refused
 unfolding wrap_numbers wraps
-returns c = λ packet. rw c.before.wrapped.given.1 refl
+returns c = λ packet. rw c.in-Refused.is refl
 
-returns-2 : tie.Need-returns-2
+returns-2 : tie.Need-returns-in-Total
 unfolding wrap_numbers wraps
-returns-2 c = λ packet. rw c.before.wrapped2.given.1 refl
+returns-2 c = λ packet. rw c.in-Total.is refl
 
-pub wrapped-said-spec : {M : Type 1} → statement M
-wrapped-said-spec = tie.close (tie.spec (λ c. search rules) (λ c. search rules) (λ c. search rules) (λ c. search rules) returns returns-2)
+pub wrapped_said_spec : {M : Type 1} → statement M
+wrapped_said_spec = tie.close (tie.spec (λ c. search rules) (λ c. search rules) (λ c. search rules) (λ c. search rules) returns returns-2)

@@ -7,17 +7,17 @@ use Rattle.exports.specs.Relaying.{entry_of}
 use Rattle.exports.proofs.relaying.entry_of.Statement.{statement}
 use Rattle.exports.proofs.relaying.entry_of.Tie as tie
 
-returns : tie.Need-returns
+returns : tie.Need-returns-then-apid-gt-MOST_SHORT
 unfolding entry_of
-returns c = rw (lt-ltb _ _ c.if1.true) refl
+returns c = rw (lt-ltb _ _ c.if-apid-gt-MOST_SHORT.true) refl
 
-returns-2 : tie.Need-returns-2
+returns-2 : tie.Need-returns-then-destination-gt-MOST_DESTINATION
 unfolding entry_of
-returns-2 c = rw (le-ltb _ _ c.before.if1.false, lt-ltb _ _ c.if2.true) refl
+returns-2 c = rw (le-ltb _ _ c.if-apid-gt-MOST_SHORT.false, lt-ltb _ _ c.if-destination-gt-MOST_DESTINATION.true) refl
 
-returns-3 : tie.Need-returns-3
+returns-3 : tie.Need-returns
 unfolding entry_of
-returns-3 c = rw (le-ltb _ _ c.before.if1.false, le-ltb _ _ c.if2.false) refl
+returns-3 c = rw (le-ltb _ _ c.if-apid-gt-MOST_SHORT.false, le-ltb _ _ c.if-destination-gt-MOST_DESTINATION.false) refl
 
-pub entry-of-spec : {M : Type 1} → statement M
-entry-of-spec = tie.close (tie.spec returns returns-2 (λ c. search rules) (λ c. search rules) returns-3)
+pub entry_of_spec : {M : Type 1} → statement M
+entry_of_spec = tie.close (tie.spec returns returns-2 (λ c. search rules) (λ c. search rules) returns-3)

@@ -10,32 +10,27 @@ use Rattle.exports.proofs.Relays.{route_short, route_done}
 use Rattle.exports.proofs.relaying.itz_relay_route.Statement.{statement}
 use Rattle.exports.proofs.relaying.itz_relay_route.Tie as tie
 
-returns : tie.Need-returns
+returns : tie.Need-returns-then-table-answer
 returns c =
-    let a = c.before.before.before.before.before.args in
-    route_short a.limit a.table.now a.packet.now a.destinations.now a.answer.now c.if1.true
+    let a = c.args in
+    route_short a.limit a.table.now a.packet.now a.destinations.now a.answer.now c.if-table-answer.true
 
-table-of-requires : tie.Need-table-of-requires
+table-of-requires : tie.Need-table_of-requires
 table-of-requires c κs =
-    let a = c.before.before.before.before.before.args in
-    let h = ltb-false (length a.table.now) 65 (or_false (ltb (length a.table.now) 65) (ltb (length a.answer.now) 3) c.if1.false).0 in
+    let a = c.args in
+    let h = ltb-false (length a.table.now) 65 (or_false (ltb (length a.table.now) 65) (ltb (length a.answer.now) 3) c.if-table-answer.false).0 in
     omega arith
 
-returns-2 : tie.Need-returns-2
+returns-2 : tie.Need-returns
 returns-2 c =
-    let at-tell = c.before.before in
-    let at-said = at-tell.before.before.before in
-    let at-route = at-said.before.before.before in
-    let at_table = at-route.before.before in
-    let at-if1 = at_table.before in
-    let a = at-if1.before.before.before.before.before.args in
-    let out = at-route.route.new.1.1.1.0 in
-    rw (at-tell.tell.ensures.0, at-tell.tell.ensures.1, at-said.routed-said.ensures out)
-    (route_done a.limit a.table.now a.packet.now a.destinations.now a.answer.now at-route.route.result out at-if1.if1.false
-    at_table.table_of.ensures at-route.route.ensures)
+    let a = c.args in
+    let out = c.route.new.out in
+    rw (c.tell.ensures.0, c.tell.ensures.1, c.routed_said-said.ensures out)
+    (route_done a.limit a.table.now a.packet.now a.destinations.now a.answer.now c.route.result out c.if-table-answer.false
+    c.table_of.ensures c.route.ensures)
 
-pub itz-relay-route-spec : {M : Type 1} → statement M
-itz-relay-route-spec =
+pub itz_relay_route_spec : {M : Type 1} → statement M
+itz_relay_route_spec =
     tie.close
     (tie.spec
     returns

@@ -13,11 +13,11 @@ use Rattle.exports.proofs.relaying.table_of.Tie as tie
 returns : tie.Need-returns
 unfolding table_of
 returns c =
-    let numbers = c.before.before.before.before.args.numbers.now in
+    let numbers = c.args.numbers.now in
     let rest : take (length numbers - 1) (drop 1 numbers) ≡ drop 1 numbers = take_all (length numbers - 1) (drop 1 numbers) (simp length-drop (omega arith)) in
-    rw (c.before.entries_of.ensures, rest) refl
+    rw (c.entries_of-entries.ensures, rest) refl
 
-pub table-of-spec : {M : Type 1} → statement M
-table-of-spec =
+pub table_of_spec : {M : Type 1} → statement M
+table_of_spec =
     tie.close
     (tie.spec (λ c. search rules) (λ c. search rules) (λ c. search rules) (λ c κs. search rules) (λ c. search rules) returns)

@@ -10,36 +10,34 @@ use Rattle.exports.proofs.Relays.{wide_at, wide_past}
 use Rattle.exports.proofs.relaying.wide.Statement.{statement}
 use Rattle.exports.proofs.relaying.wide.Tie as tie
 
-abbrev invariant-loop : tie.invariant-loop
-invariant-loop numbers end i₀ i = wide numbers ≡ wide (drop (2 * i) numbers)
+abbrev invariant-loop-i : tie.invariant-loop-i
+invariant-loop-i numbers end i₀ i = wide numbers ≡ wide (drop (2 * i) numbers)
 
-abbrev decreases-loop : tie.decreases-loop
-decreases-loop numbers end i₀ i = end - i
+abbrev decreases-loop-i : tie.decreases-loop-i
+decreases-loop-i numbers end i₀ i = end - i
 
-returns : tie.Need-returns invariant-loop decreases-loop
+returns : tie.Need-returns-then-numbers-i-gt-MOST_DESTINATION invariant-loop-i decreases-loop-i
 returns c =
-    let at-loop = c.before.before.before in
-    let numbers = at-loop.before.args.numbers.now in
-    sym (at-loop.loop.invariant ∙ wide_at numbers at-loop.loop.i (omega arith) ∙ rw (lt-ltb _ _ c.if1.true) refl)
+    let numbers = c.args.numbers.now in
+    sym (c.loop-i.invariant ∙ wide_at numbers c.loop-i.i (omega arith) ∙ rw (lt-ltb _ _ c.if-numbers-i-gt-MOST_DESTINATION.true) refl)
 
-loop-again : tie.Need-loop-preserved invariant-loop decreases-loop
+loop-again : tie.Need-loop-i-preserved invariant-loop-i decreases-loop-i
 loop-again c =
-    let at-loop = c.before.before.before in
-    let numbers = at-loop.before.args.numbers.now in
-    at-loop.loop.invariant ∙ wide_at numbers at-loop.loop.i (omega arith) ∙ rw (le-ltb _ _ c.if1.false) refl
+    let numbers = c.args.numbers.now in
+    c.loop-i.invariant ∙ wide_at numbers c.loop-i.i (omega arith) ∙ rw (le-ltb _ _ c.if-numbers-i-gt-MOST_DESTINATION.false) refl
 
-returns-2 : tie.Need-returns-2 invariant-loop decreases-loop
+returns-2 : tie.Need-returns invariant-loop-i decreases-loop-i
 returns-2 c =
-    let numbers = c.before.before.args.numbers.now in
-    let past : length (drop (2 * c.before.loop.i) numbers) ≤ 1 = simp length-drop (omega arith) in
-    sym (c.before.loop.invariant ∙ wide_past _ past)
+    let numbers = c.args.numbers.now in
+    let past : length (drop (2 * c.loop-i.i) numbers) ≤ 1 = simp length-drop (omega arith) in
+    sym (c.loop-i.invariant ∙ wide_past _ past)
 
 pub wide_spec : {M : Type 1} → statement M
 wide_spec =
     tie.close
     (tie.spec
-    invariant-loop
-    decreases-loop
+    invariant-loop-i
+    decreases-loop-i
     (λ c. refl)
     (λ c. record { fits = omega arith })
     (λ c. record { fits = omega arith })

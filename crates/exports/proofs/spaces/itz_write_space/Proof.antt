@@ -10,26 +10,24 @@ use borrow.Author.Rules.{rules}
 use Rattle.exports.proofs.spaces.itz_write_space.Statement.{statement}
 use Rattle.exports.proofs.spaces.itz_write_space.Tie as tie
 
-returns : tie.Need-returns
+returns : tie.Need-returns-then-header-lt-HEADER_ENTRIES
 unfolding write_space_leaves
-returns c = rw (lt-ltb _ _ c.if1.true)
+returns c = rw (lt-ltb _ _ c.if-header-lt-HEADER_ENTRIES.true)
 
-returns-2 : tie.Need-returns-2
+returns-2 : tie.Need-returns
 unfolding write_space_leaves space_writes
 returns-2 c =
-    let at_call = c.before.before in
-    let at-header = at_call.before.before in
-    let a = at-header.before.before.before.before.args in
-    rw (le-ltb _ _ at-header.before.if1.false)
-    (ap (λ (w : SpaceWriting). left w.refusal [] w.output []) (at_call.write_space.ensures ∙ at-header.header_of.ensures a.packet.now))
+    let a = c.args in
+    rw (le-ltb _ _ c.if-header-lt-HEADER_ENTRIES.false)
+    (ap (λ (w : SpaceWriting). left w.refusal [] w.output []) (c.write_space.ensures ∙ c.header_of.ensures a.packet.now))
 
-pub itz-write-space-spec : {M : Type 1} → statement M
-itz-write-space-spec =
+pub itz_write_space_spec : {M : Type 1} → statement M
+itz_write_space_spec =
     tie.close
     (tie.spec
     returns
     (λ c κs. search rules)
     (λ c κs. search rules)
     (λ c. search rules)
-    (λ c. c.before.packet.given)
+    (λ c. c.packet-1.given)
     returns-2)

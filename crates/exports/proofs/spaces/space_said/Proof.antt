@@ -7,16 +7,16 @@ use borrow.Author.Rules.{rules}
 use Rattle.exports.proofs.spaces.space_said.Statement.{statement}
 use Rattle.exports.proofs.spaces.space_said.Tie as tie
 
-returns : tie.Need-returns
+returns : tie.Need-returns-in-Refused
 unfolding space_numbers space_reads
-returns c = rw c.before.read.given.1 refl
+returns c = rw c.in-Refused.is refl
 
-returns-2 : tie.Need-returns-2
+returns-2 : tie.Need-returns-in-Read
 unfolding space_numbers space_reads
-returns-2 c = rw c.before.before.before.before.before.before.before.before.before.read2.given.1 refl
+returns-2 c = rw c.in-Read.is refl
 
-pub space-said-spec : {M : Type 1} → statement M
-space-said-spec =
+pub space_said_spec : {M : Type 1} → statement M
+space_said_spec =
     tie.close
     (tie.spec
     (λ c. search rules)

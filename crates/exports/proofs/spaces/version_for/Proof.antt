@@ -6,11 +6,11 @@ use borrow.Author.Rules.{rules}
 use Rattle.exports.proofs.spaces.version_for.Statement.{statement}
 use Rattle.exports.proofs.spaces.version_for.Tie as tie
 
-returns : tie.Need-returns
-returns c = rw (le-leb _ _ c.before.if1.true) c.octet_of.ensures
+returns : tie.Need-returns-then-length-le-MOST_HALF
+returns c = rw (le-leb _ _ c.if-length-le-MOST_HALF.true) c.octet_of.ensures
 
-returns-2 : tie.Need-returns-2
-returns-2 c = rw (lt-leb _ _ c.if1.false) refl
+returns-2 : tie.Need-returns-else-length-le-MOST_HALF
+returns-2 c = rw (lt-leb _ _ c.if-length-le-MOST_HALF.false) refl
 
-pub version-for-spec : {M : Type 1} → statement M
-version-for-spec = tie.close (tie.spec (λ c κs. search rules) returns returns-2)
+pub version_for_spec : {M : Type 1} → statement M
+version_for_spec = tie.close (tie.spec (λ c κs. search rules) returns returns-2)
