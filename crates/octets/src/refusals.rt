@@ -38,6 +38,3 @@ pub const TABLE: u8 = 12;
 
 // A frame's trailer is not the remainder of the octets before it.
 pub const TRAILER: u8 = 13;
-
-// A frame's header is beyond repair: none that is rightly written differs from it in two symbols or fewer.
-pub const HEADER: u8 = 14;

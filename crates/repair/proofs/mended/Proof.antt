@@ -36,14 +36,13 @@ returns c =
     (found word c.loop-pair.pair c.candidate-found.result c.candidate-found.ensures (sym c.is_written.ensures ∙ c.if-is_written.true)))
 
 loop-again : tie.Need-loop-pair-preserved invariant-loop-pair decreases-loop-pair
-loop-again c =
-    (
-      omega arith,
-      below_more _ _ c.loop-pair.invariant.1
-          (⊎_elim
-          (λ w. missed c.args.word c.loop-pair.pair w.candidate-found.result w.candidate-found.ensures (sym w.is_written.ensures ∙ w.if-is_written.false))
-          (λ w v right l agree. absurd (omega (arith, w.if-p-q.false))) c.if-p-q.branch-raw),
-    )
+loop-again c = (
+  omega arith,
+  below_more _ _ c.loop-pair.invariant.1
+      (⊎_elim
+      (λ w. missed c.args.word c.loop-pair.pair w.candidate-found.result w.candidate-found.ensures (sym w.is_written.ensures ∙ w.if-is_written.false))
+      (λ w v right l agree. absurd (omega (arith, w.if-p-q.false))) c.if-p-q.branch-raw),
+)
 
 returns-2 : tie.Need-returns invariant-loop-pair decreases-loop-pair
 returns-2 c =
