@@ -9,17 +9,15 @@ use native.Mathlib.Numerals.{add-one}
 use native.Mathlib.Omega.{arith}
 use lib.ListN.{length, take, drop, set, length-append, length-set, take-append-drop}
 use lib.Seq.{take-length}
-use lib.Dec.{ltb}
 use borrow.Author.Tests.{lt-ltb, le-ltb}
 use Rattle.std.proofs.Common.{append_assoc}
 use Rattle.std.proofs.lemmas.List.{drop-set}
 use Rattle.octets.specs.Basics.{over, laid_part}
-use Rattle.octets.proofs.Tests.{test}
 use Rattle.octets.proofs.Written.{part_within, length_over, over_over}
 use Rattle.packets.specs.declared.Kind.{Kind}
 use Rattle.packets.specs.declared.Kind.TheVariants.{Space, Encapsulation}
 use Rattle.packets.specs.declared.Header.TheVariants.{Whole}
-use Rattle.aosread.specs.Lines.{ascii, digits, decimal, named, last, two, packet_line, Puts}
+use Rattle.aosread.specs.Lines.{ascii, digits, decimal, last, two, packet_line, Puts}
 
 -- a text is laid whole
 pub puts_whole : (d : List ℕ) (at : ℕ) (text : List ℕ) {after : List ℕ} → at + length text ≤ length d
@@ -67,6 +65,7 @@ pub record Writing (n place rest : ℕ) (now : List ℕ) : Type 0 where
   pub fits : rest < 10 ^ suc place
   pub text : digits (suc place) rest ++ drop (suc place) now ≡ decimal n
 
+-- the rest's last digit is written, and the place before it is next
 writing_before : (n k rest : ℕ) (now : List ℕ) → Writing n (suc k) rest now → 10 ≤ rest → Writing n k (rest / 10) (set now (suc k) (48 + rest % 10))
 writing_before n k rest now w h =
     let o : ℕ = 48 + rest % 10 in
@@ -94,16 +93,6 @@ written {n = n} {place = place} {rest = rest} {now = now} w h =
     drop-set now place (48 + rest) (omega (arith, w.inside, w.twenty))
     ∙ ap (λ (i : ℕ). (48 + rest) ∷ drop i now) (add-one place)
     ∙ ap (λ (l : List ℕ). l ++ drop (suc place) now) (sym (digits_only place rest h)) ∙ w.text
-
--- so many at most
-pub digits_most : (k n : ℕ) → length (digits k n) ≤ k
-unfolding digits
-digits_most zero n = omega arith
-digits_most (suc k) n =
-    test (ltb n 10) (λ t. rw t (omega arith)) (λ t. rw (t, length-append) (omega (arith, digits_most k (n / 10))))
-
-pub named_most : (name : List ℕ) (n : ℕ) → length (named name n) ≤ length name + 20
-named_most name n = omega (arith, length-append name (decimal n), digits_most 20 n)
 
 -- ---- the line of a packet
 
