@@ -1,26 +1,23 @@
 # make: the library for x86-64, static and shared, in target/lib.
 # make install PREFIX=/usr/local: both, the header and a pkg-config file; DESTDIR is put before PREFIX.
 #
-# Takes the Rattle toolchain alone: `rt` proves and compiles the crate `exports`, and the toolchain's own linker makes the shared library.
+# Takes the Rattle toolchain alone: `rt` proves and compiles the crate `exports_c`, and the toolchain's own linker makes the shared library.
 PREFIX = /usr/local
 DESTDIR =
 VERSION = 0.1.0
 
-CRATES := $(shell sed -n 's/^exports://p' crates.txt) exports
-SOURCES := crates.txt $(shell find $(CRATES:%=crates/%) -name '*.rt' -o -name '*.antt')
-# The folder of the toolchain for this machine.
-TOOLS = $(patsubst %/docs/,%,$(dir $(shell rt doc)))/on/$(shell uname -m)/toolchain
+CRATES := $(shell sed -n 's/^exports_c staticlib://p' crates.txt) exports_c
+SOURCES := crates.txt $(shell find $(CRATES:%=crates/%) -name out -prune -o \( -name '*.rt' -o -name '*.antt' \) -print)
+# The folder of the toolchain.
+TOOLS = $(dir $(shell rt doc))toolchain
 
 all: target/lib/libitzahuemo.a target/lib/libitzahuemo.so
 
-target/staticlib/libexports.a: $(SOURCES)
-	@mkdir -p target
+target/lib/libitzahuemo.a: $(SOURCES)
+	@mkdir -p $(@D)
 	@echo 'proving and compiling the library, which takes minutes; the log is target/library.log'
-	@rt staticlib exports >target/library.log 2>&1 || { cat target/library.log; exit 1; }
-
-target/lib/libitzahuemo.a: target/staticlib/libexports.a
-	mkdir -p $(@D)
-	cp $< $@
+	@(cd crates/exports_c && rt lib) >target/library.log 2>&1 || { cat target/library.log; exit 1; }
+	cp crates/exports_c/out/libexports_c.a $@
 
 # `-z text` refuses code that is not position independent, `-z defs` a name that nothing defines.
 target/lib/libitzahuemo.so: target/lib/libitzahuemo.a

@@ -1,24 +1,23 @@
 -- Texts put into a buffer one after the other, and the digits of a number.
 -- Assumes nothing.
-use mathlib.Core.Path.{◌≡◌, refl, sym, ap, ◌∙◌, subst, subst⁻¹}
-use mathlib.Core.List.{List, [], ◌++◌}
+use mathlib.Core.Path.{◌≡◌, refl, sym, ap, ◌∙◌, subst⁻¹}
+use mathlib.Core.List.{List, [], ◌∷◌, ◌++◌}
 use mathlib.Core.Bool.{Bool, true, false}
-use Prim.Native.Nat.{ℕ, zero, suc, ◌+◌, ◌-◌, ◌/◌, ◌%◌, ◌^◌, ◌*◌, ◌≤◌, ◌<◌}
-use native.Mathlib.Nat.{add-zero, pow-suc, one-le-pow, sub-zero, mod-lt}
+use Prim.Native.Nat.{ℕ, zero, suc, ◌+◌, ◌-◌, ◌/◌, ◌%◌, ◌^◌, ◌≤◌, ◌<◌}
+use native.Mathlib.Nat.{add-zero, pow-suc, sub-zero, mod-eq_of_lt}
+use native.Mathlib.Numerals.{add-one}
 use native.Mathlib.Omega.{arith}
-use lib.ListN.{length, take, length-append, take-append-drop}
+use lib.ListN.{length, take, drop, set, length-append, length-set, take-append-drop}
 use lib.Seq.{take-length}
-use lib.Pow.{pow-add}
-use lib.Dec.{leb, ltb, lit<}
-use borrow.Author.Tests.{lt-ltb, le-ltb, leb-true, leb-false}
+use borrow.Author.Tests.{lt-ltb, le-ltb}
+use Rattle.std.proofs.Common.{append_assoc}
+use Rattle.std.proofs.lemmas.List.{drop-set}
 use Rattle.octets.specs.Basics.{over, laid_part}
-use Rattle.octets.proofs.Tests.{test}
 use Rattle.octets.proofs.Written.{part_within, length_over, over_over}
-use Rattle.io.specs.Digits.{hex_digit_ascii, IsDigitCount, last_digits as io-digits}
 use Rattle.packets.specs.declared.Kind.{Kind}
 use Rattle.packets.specs.declared.Kind.TheVariants.{Space, Encapsulation}
 use Rattle.packets.specs.declared.Header.TheVariants.{Whole}
-use Rattle.aosread.specs.Lines.{ascii, digits, decimal, named, last, two, packet_line, Puts}
+use Rattle.aosread.specs.Lines.{ascii, digits, decimal, last, two, packet_line, Puts}
 
 -- a text is laid whole
 pub puts_whole : (d : List ℕ) (at : ℕ) (text : List ℕ) {after : List ℕ} → at + length text ≤ length d
@@ -51,47 +50,49 @@ puts_then {d} {e} {f} {a} {b} {at} {mid} {end} p q =
 
 -- ---- the digits of a number
 
-glyph_of_ten : (d : ℕ) → d < 10 → hex_digit_ascii d ≡ 48 + d
-glyph_of_ten d h = rw (lt-ltb d 10 h) refl
-
--- the fewest that hold it
-pub digits_fewest : (k m n : ℕ) → k ≤ m → IsDigitCount 10 1 n k → io-digits 10 k n ≡ digits m n
+digits_more : (k n : ℕ) → 10 ≤ n → digits (suc (suc k)) n ≡ digits (suc k) (n / 10) ++ ((48 + n % 10) ∷ [])
 unfolding digits
-digits_fewest zero m n h f = absurd (omega (arith, f.0))
-digits_fewest (suc k) zero n h f = absurd (omega arith)
-digits_fewest (suc zero) (suc m) n h f = rw (glyph_of_ten (n % 10) (mod-lt n (lit< tt)), lt-ltb n 10 f.1) refl
-digits_fewest (suc (suc k)) (suc m) n h f =
-    let before_last : suc (suc k) - 1 ≡ suc k = omega arith in
-    let before-that : suc k - 1 ≡ k = omega arith in
-    let least : 10 ^ suc k ≤ n = subst (λ (e : ℕ). 10 ^ e ≤ n) before_last (f.2 (omega arith)) in
-    let some : 1 ≤ 10 ^ k = one-le-pow k 10 (lit< tt) in
-    let up : 10 ^ suc k ≡ 10 ^ k * 10 = pow-suc 10 k in
-    let upper : 10 ^ suc (suc k) ≡ 10 ^ suc k * 10 = pow-suc 10 (suc k) in
-    let rest : IsDigitCount 10 1 (n / 10) (suc k) =
-    (omega arith, omega (arith, f.1), λ _. subst⁻¹ (λ (e : ℕ). 10 ^ e ≤ n / 10) before-that (omega arith)) in
-    rw (glyph_of_ten (n % 10) (mod-lt n (lit< tt)), le-ltb n 10 (omega arith), digits_fewest (suc k) m (n / 10) (omega arith) rest) refl
+digits_more k n h = rw (le-ltb n 10 h) refl
 
--- twenty hold a number of 64 bits
-pub fewest_most : (n k : ℕ) → n < 2 ^ 64 → IsDigitCount 10 1 n k → k ≤ 20
-fewest_most n k h f = test (leb k 20) (λ t. leb-true k 20 t) (λ t. absurd (past t))
-  where
-    past : leb k 20 ≡ false → ⊥
-    past t =
-        let more : 20 < k = leb-false k 20 t in
-        let j : ℕ = k - 21 in
-        let e : k - 1 ≡ 20 + j = omega arith in
-        let great : 10 ^ (20 + j) ≤ n = subst (λ (i : ℕ). 10 ^ i ≤ n) e (f.2 (omega arith)) in
-        omega (arith, pow-add 10 20 j, one-le-pow j 10 (lit< tt))
-
--- so many at most
-pub digits_most : (k n : ℕ) → length (digits k n) ≤ k
+digits_only : (k n : ℕ) → n < 10 → digits (suc k) n ≡ (48 + n) ∷ []
 unfolding digits
-digits_most zero n = omega arith
-digits_most (suc k) n =
-    test (ltb n 10) (λ t. rw t (omega arith)) (λ t. rw (t, length-append) (omega (arith, digits_most k (n / 10))))
+digits_only k n h = rw (lt-ltb n 10 h, mod-eq_of_lt {n = n} {m = 10} h) refl
 
-pub named_most : (name : List ℕ) (n : ℕ) → length (named name n) ≤ length name + 20
-named_most name n = omega (arith, length-append name (decimal n), digits_most 20 n)
+-- while they are written from the last to the first: those of the rest come before those that stand behind `place`
+pub record Writing (n place rest : ℕ) (now : List ℕ) : Type 0 where
+  pub twenty : length now ≡ 20
+  pub inside : place < 20
+  pub fits : rest < 10 ^ suc place
+  pub text : digits (suc place) rest ++ drop (suc place) now ≡ decimal n
+
+-- the rest's last digit is written, and the place before it is next
+writing_before : (n k rest : ℕ) (now : List ℕ) → Writing n (suc k) rest now → 10 ≤ rest → Writing n k (rest / 10) (set now (suc k) (48 + rest % 10))
+writing_before n k rest now w h =
+    let o : ℕ = 48 + rest % 10 in
+    let here : drop (suc k) (set now (suc k) o) ≡ o ∷ drop (suc (suc k)) now =
+    drop-set now (suc k) o (omega (arith, w.inside, w.twenty)) ∙ ap (λ (i : ℕ). o ∷ drop i now) (add-one (suc k)) in
+    record {
+      twenty = length-set now (suc k) o ∙ w.twenty;
+      inside = omega (arith, w.inside);
+      fits = omega (arith, w.fits, pow-suc 10 (suc k));
+      text = ap (λ (l : List ℕ). digits (suc k) (rest / 10) ++ l) here
+          ∙ sym (append_assoc (digits (suc k) (rest / 10)) (o ∷ []) (drop (suc (suc k)) now))
+          ∙ ap (λ (l : List ℕ). l ++ drop (suc (suc k)) now) (sym (digits_more k rest h)) ∙ w.text;
+    }
+
+pub writing_on : {n place rest : ℕ} {now : List ℕ} → Writing n place rest now → 10 ≤ rest
+    → Writing n (place - 1) (rest / 10) (set now place (48 + rest % 10))
+writing_on {place = zero} w h = absurd (omega (arith, w.fits))
+writing_on {n = n} {place = suc k} {rest = rest} {now = now} w h =
+    let e : suc k - 1 ≡ k = omega arith in
+    subst⁻¹ (λ (p : ℕ). Writing n p (rest / 10) (set now (suc k) (48 + rest % 10))) e (writing_before n k rest now w h)
+
+-- the last of them to be written is the first
+pub written : {n place rest : ℕ} {now : List ℕ} → Writing n place rest now → rest < 10 → drop place (set now place (48 + rest)) ≡ decimal n
+written {n = n} {place = place} {rest = rest} {now = now} w h =
+    drop-set now place (48 + rest) (omega (arith, w.inside, w.twenty))
+    ∙ ap (λ (i : ℕ). (48 + rest) ∷ drop i now) (add-one place)
+    ∙ ap (λ (l : List ℕ). l ++ drop (suc place) now) (sym (digits_only place rest h)) ∙ w.text
 
 -- ---- the line of a packet
 

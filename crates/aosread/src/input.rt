@@ -2,8 +2,9 @@
 ghost use Rattle.std.specs.Prelude.{◌≡◌, ◌+◌, ◌≤◌, length, take, drop};
 ghost use Rattle.aosread.specs.Input.{Inside, unread as unread-in, StandFirst, Follows};
 
-use libc::{STDERR_FILENO, STDIN_FILENO};
 use runfile::Progress;
+use std::io;
+use std::io::Read;
 
 // The octets of the buffer that are read and not yet taken.
 #[derive(Clone, Copy)]
@@ -39,28 +40,31 @@ fn to_front(buf: &mut [u8], from: usize, n: usize)
 }
 
 // How many octets of a part a read has filled; standard error says so where it could not read.
-fn received(got: isize, part: &[u8]) -> usize
+fn received(rt: &impl Eprint, got: io::Result<usize>, part: &[u8]) -> usize
     ensures { result ≤ length part.now }
 {
-    if got < 0 {
-        io::write_all(STDERR_FILENO, b"aosread: standard input cannot be read\n");
+    match got {
+        Ok(n) => octets::least(n, part.len()),
+        Err(_) => {
+            let _ = rt.eprintln("aosread: standard input cannot be read");
+            0
+        }
     }
-    io::count(got, part)
 }
 
 // One read behind the buffer's first `to` octets: how many came, 0 where the input has ended or cannot be read.
-fn read_behind(buf: &mut [u8], to: usize) -> usize
+fn read_behind(rt: &(impl Input + Eprint), buf: &mut [u8], to: usize) -> usize
     requires { to ≤ length buf.old }
     ensures result_in_bounds { to + result ≤ length buf.new }
     ensures buf_unchanged { take to buf.new ≡ take to buf.old }
 {
     let rest = &mut buf[to..];
-    let got = libc::read(STDIN_FILENO, rest);
-    received(got, rest)
+    let got = rt.reader().read(rest);
+    received(rt, got, rest)
 }
 
 // Reads on until n octets are there or the input has ended.
-fn wait_for(buf: &mut [u8], unread: Unread, n: usize) -> Unread
+fn wait_for(rt: &(impl Input + Eprint), buf: &mut [u8], unread: Unread, n: usize) -> Unread
     requires { Inside unread buf.old }
     ensures inside { Inside result buf.new }
     ensures stand_first { StandFirst unread buf.old (unread-in result buf.new) }
@@ -73,7 +77,7 @@ fn wait_for(buf: &mut [u8], unread: Unread, n: usize) -> Unread
     to_front(buf, from, there);
     let mut to = there;
     while to < n {
-        let got = read_behind(buf, to);
+        let got = read_behind(rt, buf, to);
         if got == 0 {
             return Unread { from: 0, to };
         }
@@ -83,11 +87,16 @@ fn wait_for(buf: &mut [u8], unread: Unread, n: usize) -> Unread
 }
 
 // The next record.
-pub(crate) fn next(buf: &mut [u8], unread: Unread, progress: Progress) -> Record
+pub(crate) fn next(
+    rt: &(impl Input + Eprint),
+    buf: &mut [u8],
+    unread: Unread,
+    progress: Progress,
+) -> Record
     requires { Inside unread buf.old }
     ensures { Follows progress result unread buf.old buf.new }
 {
-    let start = wait_for(buf, unread, 1);
+    let start = wait_for(rt, buf, unread, 1);
     let at = start.from;
     if start.to == at {
         return Record {
@@ -101,7 +110,7 @@ pub(crate) fn next(buf: &mut [u8], unread: Unread, progress: Progress) -> Record
     }
     let kind = buf[at];
     let size = runfile::body_length(progress, kind);
-    let whole = wait_for(buf, start, 1 + size);
+    let whole = wait_for(rt, buf, start, 1 + size);
     let from = whole.from + 1;
     let end = whole.to;
     let to = octets::least(from + size, end);

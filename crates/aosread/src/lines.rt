@@ -1,6 +1,6 @@
 // The lines of the output, each put into a buffer behind the octets that wait there.
-ghost use Rattle.std.specs.Prelude.{◌+◌, ◌≤◌, length};
-ghost use Rattle.aosread.specs.Lines.{ascii, named as named-text, last as last-text, two as two-text, setup_line, entered_line, packet_line, step_line, verdict_line, Puts, Room};
+ghost use Rattle.std.specs.Prelude.{◌≡◌, ◌+◌, ◌≤◌, length, drop};
+ghost use Rattle.aosread.specs.Lines.{ascii, decimal as digits-of, named as named-text, last as last-text, two as two-text, setup_line, entered_line, packet_line, step_line, verdict_line, Puts, Room};
 
 use extractor::{Entered, Found};
 use frames::Settings;
@@ -18,6 +18,22 @@ fn put(out: &mut [u8], at: usize, text: &[u8]) -> usize
     at + text.len()
 }
 
+// The decimal digits of a number, put at the end of twenty octets; where they begin.
+fn decimal(n: u64, digits: &mut [u8; 20]) -> usize
+    ensures in_bounds { result ≤ 20 }
+    ensures digits { drop result digits.new ≡ digits-of n }
+{
+    let mut from = 19;
+    let mut rest = n;
+    while rest >= 10 {
+        digits[from] = b'0' + (rest % 10) as u8;
+        rest /= 10;
+        from -= 1;
+    }
+    digits[from] = b'0' + rest as u8;
+    from
+}
+
 // A number's decimal digits behind its name.
 fn named(out: &mut [u8], at: usize, name: &[u8], n: u64) -> usize
     requires { at + (length name.now + 20) ≤ length out.old }
@@ -25,9 +41,9 @@ fn named(out: &mut [u8], at: usize, name: &[u8], n: u64) -> usize
     ensures upper_bound { result ≤ at + (length name.now + 20) }
 {
     let mut digits = [0u8; 20];
-    let k = io::decimal(n, &mut digits);
+    let from = decimal(n, &mut digits);
     let at = put(out, at, name);
-    put(out, at, &digits[..k])
+    put(out, at, &digits[from..])
 }
 
 // The same at the end of a line.

@@ -1,4 +1,6 @@
 // Reads a run from standard input, and prints what the extractor says of it and the judge's verdict.
+#![tactic(auto)]
+
 ghost use Rattle.std.specs.Prelude.{◌≡◌, not, ◌≤◌, length};
 ghost use Rattle.extractor.specs.Calls.{goes_on};
 ghost use Rattle.aosread.specs.Input.{Inside};
@@ -8,8 +10,8 @@ use extractor::{Entered, Extractor, Found};
 use frames::Settings;
 use input::Unread;
 use judge::Judge;
-use libc::{STDERR_FILENO, STDOUT_FILENO};
 use runfile::Progress;
+use std::io;
 
 mod input;
 mod lines;
@@ -30,29 +32,26 @@ struct Run {
 }
 
 // Says on standard error that text is lost, where it was not written whole.
-fn complain(whole: bool) {
-    if !whole {
-        io::write_all(
-            STDERR_FILENO,
-            b"aosread: standard output cannot be written\n",
-        );
+fn complain(rt: &impl Eprint, written: io::Result<()>) {
+    if written.is_err() {
+        let _ = rt.eprintln("aosread: standard output cannot be written");
     }
 }
 
 // Writes the text that waits.
-fn flush(out: &[u8], waiting: usize)
+fn flush(rt: &(impl Print + Eprint), out: &[u8], waiting: usize)
     requires { waiting ≤ length out.now }
 {
-    complain(io::write_all(STDOUT_FILENO, &out[..waiting]));
+    complain(rt, rt.write_all(&out[..waiting]));
 }
 
 // Writes the text that waits where there is no room for another line behind it; what waits then.
-fn make_room(out: &[u8], waiting: usize) -> usize
+fn make_room(rt: &(impl Print + Eprint), out: &[u8], waiting: usize) -> usize
     requires { (waiting ≤ length out.now) × Room 0 out.now }
     ensures { Room result out.now }
 {
     if out.len() - waiting < lines::MOST_LINE {
-        flush(out, waiting);
+        flush(rt, out, waiting);
         return 0;
     }
     waiting
@@ -73,6 +72,7 @@ fn is_last(found: Found) -> bool
 
 // The line of what a step found: a packet, or damage.
 fn tell<'a>(
+    rt: &(impl Print + Eprint),
     s: Settings,
     found: Found,
     store: &'a [u8],
@@ -85,11 +85,12 @@ fn tell<'a>(
 {
     let header = packets::read_header(s.limit, extractor::show(frame, store, found));
     let line = lines::step(out, waiting, found, header);
-    make_room(out, line)
+    make_room(rt, out, line)
 }
 
 // Steps an entered frame until it is spent, a line for each step.
 fn spend(
+    rt: &(impl Print + Eprint),
     s: Settings,
     x: Extractor,
     store: &mut [u8],
@@ -109,12 +110,13 @@ fn spend(
         if is_last(found) {
             return Heard { next, waiting };
         }
-        waiting = tell(s, found, store, frame, out, waiting);
+        waiting = tell(rt, s, found, store, frame, out, waiting);
     }
 }
 
 // Enters a frame and steps it; one that is refused takes no steps.
 fn hear(
+    rt: &(impl Print + Eprint),
     s: Settings,
     x: Extractor,
     store: &mut [u8],
@@ -129,15 +131,16 @@ fn hear(
     let entered = entering.entered;
     let next = entering.next;
     let line = lines::entered(out, waiting, entered);
-    let waiting = make_room(out, line);
+    let waiting = make_room(rt, out, line);
     if let Entered::Taken { .. } = entered {
-        return spend(s, next, store, frame, out, waiting);
+        return spend(rt, s, next, store, frame, out, waiting);
     }
     Heard { next, waiting }
 }
 
 // A frame of the run, heard and judged.
 fn frame(
+    rt: &(impl Print + Eprint),
     s: Settings,
     run: Run,
     store: &mut [u8],
@@ -150,7 +153,7 @@ fn frame(
 {
     let x = run.extractor;
     let j = run.judge;
-    let heard = hear(s, x, store, frame, out, run.waiting);
+    let heard = hear(rt, s, x, store, frame, out, run.waiting);
     let judged = judge::frame(s, j, tried, frame);
     let x = heard.next;
     let j = judged.next;
@@ -180,6 +183,7 @@ fn conclude(s: Settings, run: Run, progress: Progress, tried: &[u8], out: &mut [
 
 // The records behind the setup, up to the last line.
 fn follow(
+    rt: &(impl Input + Print + Eprint),
     s: Settings,
     first: Unread,
     waiting: usize,
@@ -203,7 +207,7 @@ fn follow(
         waiting,
     };
     loop {
-        let record = input::next(buf, unread, progress);
+        let record = input::next(rt, buf, unread, progress);
         progress = record.progress;
         unread = record.unread;
         if record.ended {
@@ -213,7 +217,7 @@ fn follow(
             Progress::Running { .. } => {
                 let from = record.from;
                 let to = record.to;
-                run = frame(s, run, store, tried, &buf[from..to], out);
+                run = frame(rt, s, run, store, tried, &buf[from..to], out);
             }
             Progress::Ended { .. } => {}
             Progress::Bad { .. } => return conclude(s, run, progress, tried, out),
@@ -223,17 +227,23 @@ fn follow(
 }
 
 // The whole run; what waits at the end has the last line.
-fn read_run(buf: &mut [u8], store: &mut [u8], tried: &mut [u8], out: &mut [u8]) -> usize
+fn read_run(
+    rt: &(impl Input + Print + Eprint),
+    buf: &mut [u8],
+    store: &mut [u8],
+    tried: &mut [u8],
+    out: &mut [u8],
+) -> usize
     requires { Room 0 out.old }
     ensures { result ≤ length out.new }
 {
-    let first = input::next(buf, Unread { from: 0, to: 0 }, Progress::Start);
+    let first = input::next(rt, buf, Unread { from: 0, to: 0 }, Progress::Start);
     let progress = first.progress;
     match progress {
         Progress::Running { settings, .. } => {
             let line = lines::setup(out, 0, settings);
-            let waiting = make_room(out, line);
-            follow(settings, first.unread, waiting, buf, store, tried, out)
+            let waiting = make_room(rt, out, line);
+            follow(rt, settings, first.unread, waiting, buf, store, tried, out)
         }
         Progress::Bad { record } => lines::bad_record(out, 0, record),
         Progress::Ended { .. } => 0,
@@ -241,11 +251,11 @@ fn read_run(buf: &mut [u8], store: &mut [u8], tried: &mut [u8], out: &mut [u8]) 
     }
 }
 
-fn main() {
-    let mut buf = io::large_buffer();
-    let mut store = io::buffer();
-    let mut tried = io::buffer();
-    let mut out = io::large_buffer();
-    let waiting = read_run(&mut buf, &mut store, &mut tried, &mut out);
-    flush(&out, waiting);
+fn main(rt: HostRuntime) {
+    let mut buf = [0u8; 65536];
+    let mut store = [0u8; 4096];
+    let mut tried = [0u8; 4096];
+    let mut out = [0u8; 65536];
+    let waiting = read_run(&rt, &mut buf, &mut store, &mut tried, &mut out);
+    flush(&rt, &out, waiting);
 }

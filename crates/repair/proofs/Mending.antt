@@ -14,7 +14,8 @@ use Rattle.octets.proofs.Tests.{test}
 use Rattle.repair.specs.Field.{power, product}
 use Rattle.repair.specs.Values.{value, Exponent, Amount, Candidate}
 use Rattle.repair.specs.Code.{symbol, Written, distance, Near}
-use Rattle.octets.proofs.Sums.{xor_twice, crosswise}
+use Rattle.octets.proofs.Sums.{crosswise}
+use Rattle.repair.proofs.Sums.{xor_twice}
 use Rattle.repair.proofs.Laws.{product_comm, product_assoc, product_xor, xor_product, swap, product_one, product_lt, cancel, power-add, power_lt, powers_apart, round}
 use Rattle.repair.proofs.Table.{quotient}
 use Rattle.repair.proofs.Values.{value_xor, value_only, count, count_xor, count_only}

@@ -15,7 +15,8 @@ use Rattle.repair.specs.Field.{times_root, power, product_from, product}
 use Rattle.repair.specs.Values.{total, value}
 use Rattle.repair.specs.Code.{Register, symbol, divided, remainder, four, checks, written, Written}
 use Rattle.octets.proofs.Every.{below, at}
-use Rattle.octets.proofs.Sums.{xor_assoc, xor_swap, crosswise}
+use Rattle.octets.proofs.Sums.{xor_assoc, crosswise}
+use Rattle.repair.proofs.Sums.{xor_swap}
 use Rattle.repair.proofs.Laws.{product_comm, product_assoc, product_xor, xor_product, swap, product-zero, product_one, product_lt, power-add, power_zero}
 use Rattle.repair.proofs.Values.{total_first, total_times, value_xor}
 use Rattle.repair.proofs.Words.{symbol_lt, symbol_first, symbol_next, symbol_xor}

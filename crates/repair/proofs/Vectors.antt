@@ -11,7 +11,7 @@ use borrow.Author.Tests.{eq-eqb, eqb-true, eqb-false, ltb-true, leb-true, not-tr
 use Rattle.octets.specs.Basics.{pick, and, or}
 use Rattle.octets.proofs.Choices.{apart, and_true}
 use Rattle.octets.proofs.Every.{below, at, at3}
-use Rattle.octets.proofs.Sums.{xor_twice}
+use Rattle.repair.proofs.Sums.{xor_twice}
 use Rattle.words.specs.Fields.{field}
 use Rattle.repair.specs.Field.{times_root, power, product_from, product}
 use Rattle.repair.specs.Code.{symbol, divided, remainder, four, checks, distance, Near}

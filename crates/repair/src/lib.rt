@@ -8,7 +8,6 @@ ghost use Rattle.repair.specs.Code.{symbol, remainder, four, checks, written, re
 ghost use Rattle.repair.specs.Header.{six_of, header_checks, header_reading, own_octets, checked, own_reading};
 ghost use Rattle.repair.specs.Values.{generator_times, multiple, brought_down, value, Exponent, Amount, Candidate};
 
-use octets::refusals;
 use words::Place;
 
 // The word that another is read as; or the refusal, and the word 0.
@@ -24,6 +23,9 @@ pub struct Header {
     pub refusal: u8,
     pub head: u64,
 }
+
+// The refusal of a header that is beyond repair: none that is rightly written differs from it in two symbols or fewer.
+const BEYOND_REPAIR: u8 = 14;
 
 // The powers of the field's root; after these they come again.
 const POWERS: [u8; 15] = [1, 2, 4, 8, 3, 6, 12, 11, 5, 10, 7, 14, 15, 13, 9];
@@ -222,7 +224,7 @@ fn mended(word: u64) -> Repaired
         pair += 1;
     }
     Repaired {
-        refusal: refusals::HEADER,
+        refusal: BEYOND_REPAIR,
         word: 0,
     }
 }

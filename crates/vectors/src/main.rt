@@ -1,5 +1,7 @@
 // Runs the vectors that stand in the text of standard input, line by line, and prints a line for each answer.
-use libc::STDIN_FILENO;
+#![tactic(auto)]
+
+use std::io;
 
 mod ask;
 mod bits;
@@ -12,12 +14,15 @@ mod say;
 mod script;
 mod text;
 
-// The text ends before the buffer does.
-fn main() {
-    let mut text = io::large_buffer();
-    let n = io::read_full(STDIN_FILENO, &mut text);
+// More octets than a text may have.
+const ROOM: usize = 65536;
+
+// The text ends before the room for it does.
+fn main(rt: HostRuntime) -> io::Result<()> {
+    let mut text = [0u8; ROOM];
+    let n = text::read(&mut rt.stdin(), &mut text)?;
     if n < text.len() {
-        return script::follow(&text[..n]);
+        return script::follow(&rt, &text[..n]);
     }
-    say::text(b"the text has more than 65535 octets\n");
+    say::text(&rt, b"the text has more than 65535 octets\n")
 }

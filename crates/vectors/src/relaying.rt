@@ -2,6 +2,7 @@
 use crate::run::Ends;
 use crate::say;
 use relay::{Entry, Loaded, MOST_ENTRIES, Routed};
+use std::io;
 
 // A list has three octets for an entry: two for its APID, and its destination.
 const ENTRY: usize = 3;
@@ -24,47 +25,47 @@ fn listed(list: &[u8]) -> [Entry; MOST_ENTRIES] {
 }
 
 // What loading a list answered: how many entries the table has.
-fn loaded(answer: Loaded) {
+fn loaded(rt: &impl Print, answer: Loaded) -> io::Result<()> {
     if answer.refusal != 0 {
-        return say::refused(answer.refusal);
+        return say::refused(rt, answer.refusal);
     }
     let table = answer.table;
-    say::number(say::ENTRIES, table.count as u64);
+    say::number(rt, say::ENTRIES, table.count as u64)
 }
 
 // The line of a list that is loaded.
-pub(crate) fn load(e: Ends, line: &[u8], list: &[u8]) -> Ends {
+pub(crate) fn load(rt: &impl Print, e: Ends, line: &[u8], list: &[u8]) -> io::Result<Ends> {
     let answer = relay::load(e.table, list.len() / ENTRY, listed(list));
-    say::label(e.label);
-    say::line(line);
-    say::phrase(say::ANSWER);
-    loaded(answer);
-    say::end();
+    say::label(rt, e.label)?;
+    say::line(rt, line)?;
+    say::phrase(rt, say::ANSWER)?;
+    loaded(rt, answer)?;
+    say::end(rt)?;
     let table = answer.table;
     let mut after = e;
     after.table = table;
-    after
+    Ok(after)
 }
 
 // What routing a packet answered.
-fn routed(answer: Routed) {
+fn routed(rt: &impl Print, answer: Routed) -> io::Result<()> {
     match answer {
-        Routed::Refused { refusal, damage } => say::refused_for(refusal, damage),
-        Routed::NoPath => say::phrase(say::NO_PATH),
-        Routed::Path { count } => say::number(say::PATH, count as u64),
+        Routed::Refused { refusal, damage } => say::refused_for(rt, refusal, damage),
+        Routed::NoPath => say::phrase(rt, say::NO_PATH),
+        Routed::Path { count } => say::number(rt, say::PATH, count as u64),
     }
 }
 
 // The line of a packet that is routed, with all octets of which the first n are lent.
-pub(crate) fn route(e: Ends, n: usize, line: &[u8], p: &[u8]) -> Ends {
+pub(crate) fn route(rt: &impl Print, e: Ends, n: usize, line: &[u8], p: &[u8]) -> io::Result<Ends> {
     let mut out = [0xDDu8; 8];
     let room = octets::least(n, 8);
     let answer = relay::route(e.settings.limit, e.table, p, &mut out[..room]);
-    say::label(e.label);
-    say::line(line);
-    say::phrase(say::ANSWER);
-    routed(answer);
-    say::shown(&out);
-    say::end();
-    e
+    say::label(rt, e.label)?;
+    say::line(rt, line)?;
+    say::phrase(rt, say::ANSWER)?;
+    routed(rt, answer)?;
+    say::shown(rt, &out)?;
+    say::end(rt)?;
+    Ok(e)
 }

@@ -9,6 +9,7 @@ use frames::{Edition, Link, Settings, ZONE_AT};
 use multiplexer::{Mux, Reply};
 use packets::damage;
 use relay::Table;
+use std::io;
 
 // The octets of the longest frame: a zone of bits with both headers before it, and a trailer.
 pub(crate) const LONGEST: usize = ZONE_AT + MOST_WIDTH + trailer::OCTETS;
@@ -105,50 +106,59 @@ pub(crate) fn frame_length(s: Settings) -> usize {
     ZONE_AT + zone + trailer::extra(s.link.trailed)
 }
 
-fn entered(e: Entry) {
+fn entered(rt: &impl Print, e: Entry) -> io::Result<()> {
     say::numbers(
+        rt,
         say::FRAME,
         e.count as u64,
         e.lost as u64,
         e.dropped as u64,
         e.reason as u64,
-    );
+    )?;
     if e.damage != damage::NONE {
-        say::number(say::DAMAGE, e.damage as u64);
+        say::number(rt, say::DAMAGE, e.damage as u64)?;
     }
+    Ok(())
 }
 
 // A packet that was handed over: what its header says and, unless it is idle, its octets.
-fn handed(limit: usize, p: &[u8]) {
-    say::phrase(say::NEXT);
-    if !say::header(packets::read_header(limit, p)) {
-        say::shown(p);
+fn handed(rt: &impl Print, limit: usize, p: &[u8]) -> io::Result<()> {
+    say::phrase(rt, say::NEXT)?;
+    if !say::header(rt, packets::read_header(limit, p))? {
+        say::shown(rt, p)?;
     }
+    Ok(())
 }
 
 // What a step found, and whether to take another.
-fn found<'a>(limit: usize, frame: &'a [u8], store: &'a [u8], f: Found) -> bool {
+fn found<'a>(
+    rt: &impl Print,
+    limit: usize,
+    frame: &'a [u8],
+    store: &'a [u8],
+    f: Found,
+) -> io::Result<bool> {
     match f {
         Found::Refused { refusal } => {
-            say::phrase(say::NEXT);
-            say::refused(refusal);
-            false
+            say::phrase(rt, say::NEXT)?;
+            say::refused(rt, refusal)?;
+            Ok(false)
         }
         Found::Damaged { damage } => {
-            say::phrase(say::NEXT);
-            say::damaged(damage);
-            true
+            say::phrase(rt, say::NEXT)?;
+            say::damaged(rt, damage)?;
+            Ok(true)
         }
-        Found::Spent => false,
+        Found::Spent => Ok(false),
         _ => {
-            handed(limit, extractor::show(frame, store, f));
-            true
+            handed(rt, limit, extractor::show(frame, store, f))?;
+            Ok(true)
         }
     }
 }
 
 // Steps through a frame that is entered until it is spent: with the longest zone that takes 2,047 steps at most.
-fn walk(s: Settings, r: Receiver, frame: &[u8]) -> Receiver {
+fn walk(rt: &impl Print, s: Settings, r: Receiver, frame: &[u8]) -> io::Result<Receiver> {
     let mut x = r.extractor;
     let mut store = r.store;
     let mut left = MOST_WIDTH;
@@ -156,78 +166,78 @@ fn walk(s: Settings, r: Receiver, frame: &[u8]) -> Receiver {
         let step = extractor::step(s, x, &mut store, frame);
         x = step.next;
         let f = step.found;
-        if !found(s.limit, frame, &store, f) {
-            return Receiver {
+        if !found(rt, s.limit, frame, &store, f)? {
+            return Ok(Receiver {
                 extractor: x,
                 store,
-            };
+            });
         }
         left -= 1;
     }
-    Receiver {
+    Ok(Receiver {
         extractor: x,
         store,
-    }
+    })
 }
 
 // All that the extractor says of a frame.
-fn listen(s: Settings, r: Receiver, frame: &[u8]) -> Receiver {
+fn listen(rt: &impl Print, s: Settings, r: Receiver, frame: &[u8]) -> io::Result<Receiver> {
     let before = r.extractor;
     let store = r.store;
     let answer = extractor::enter(s, before, &store, frame);
     let said = answer.entered;
     match said {
         Entered::Refused { refusal } => {
-            say::refused(refusal);
-            r
+            say::refused(rt, refusal)?;
+            Ok(r)
         }
         Entered::Taken { entry } => {
-            entered(entry);
+            entered(rt, entry)?;
             let next = answer.next;
             let receiver = Receiver {
                 extractor: next,
                 store,
             };
-            walk(s, receiver, frame)
+            walk(rt, s, receiver, frame)
         }
     }
 }
 
 // The line of a frame that is read.
-pub(crate) fn hear(e: Ends, frame: &[u8]) -> Ends {
-    say::label(e.label);
-    say::phrase(say::READS);
-    let receiver = listen(e.settings, e.receiver, frame);
-    say::end();
+pub(crate) fn hear(rt: &impl Print, e: Ends, frame: &[u8]) -> io::Result<Ends> {
+    say::label(rt, e.label)?;
+    say::phrase(rt, say::READS)?;
+    let receiver = listen(rt, e.settings, e.receiver, frame)?;
+    say::end(rt)?;
     let mut after = e;
     after.receiver = receiver;
-    after
+    Ok(after)
 }
 
 // The line of a frame that is full, with its pointer and its octets; then it is heard.
-fn full(e: Ends) -> Ends {
+fn full(rt: &impl Print, e: Ends) -> io::Result<Ends> {
     let frame = e.frame;
     let whole = octets::part(&frame, 0, frame_length(e.settings));
     let head = frames::read_head(e.settings, whole);
-    say::label(e.label);
-    say::number(say::WRITES, head.pointer as u64);
-    say::octets(whole);
-    say::end();
-    hear(e, whole)
+    say::label(rt, e.label)?;
+    say::number(rt, say::WRITES, head.pointer as u64)?;
+    say::octets(rt, whole)?;
+    say::end(rt)?;
+    hear(rt, e, whole)
 }
 
 // What the multiplexer answered: a refusal is said, and a frame that is full is said and heard.
-fn answered(e: Ends, r: Reply) -> Ends {
+fn answered(rt: &impl Print, e: Ends, r: Reply) -> io::Result<Ends> {
     match r {
         Reply::Refused {
             refusal,
             damage,
             ..
         } => {
-            say::label(e.label);
-            say::refused_for(refusal, damage);
-            say::end();
-            e
+            say::label(rt, e.label)?;
+            say::refused_for(rt, refusal, damage)?;
+            say::end(rt)?;
+            Ok(e)
         }
         Reply::Done {
             full: is_full,
@@ -237,9 +247,9 @@ fn answered(e: Ends, r: Reply) -> Ends {
             let mut after = e;
             after.mux = mux;
             if is_full {
-                return full(after);
+                return full(rt, after);
             }
-            after
+            Ok(after)
         }
     }
 }
@@ -269,51 +279,51 @@ fn call(c: Call, e: Ends, p: &[u8]) -> Called {
 
 // Calls the multiplexer until the packet is taken, to which each call that is not refused adds an octet at least; once where there
 // is no packet.
-pub(crate) fn transmit(c: Call, e: Ends, p: &[u8]) -> Ends {
+pub(crate) fn transmit(rt: &impl Print, c: Call, e: Ends, p: &[u8]) -> io::Result<Ends> {
     let mut now = e;
     let mut left = p.len() + 1;
     while left > 0 {
         let called = call(c, now, p);
         let reply = called.reply;
-        now = answered(called.ends, reply);
+        now = answered(rt, called.ends, reply)?;
         if is_done(reply) {
-            return now;
+            return Ok(now);
         }
         left -= 1;
     }
-    now
+    Ok(now)
 }
 
 // What the multiplexer answered to one call.
-fn replied(r: Reply) {
+fn replied(rt: &impl Print, r: Reply) -> io::Result<()> {
     match r {
         Reply::Refused {
             refusal,
             damage,
             ..
-        } => say::refused_for(refusal, damage),
+        } => say::refused_for(rt, refusal, damage),
         Reply::Done { full, taken, .. } => {
-            say::numbers(say::DONE, full as u64, taken as u64, 0, 0);
+            say::numbers(rt, say::DONE, full as u64, taken as u64, 0, 0)
         }
     }
 }
 
 // The line of one call with a packet, and of what its header says.
-fn put_once(e: Ends, p: &[u8]) {
-    say::label(e.label);
-    say::phrase(say::PUT);
+fn put_once(rt: &impl Print, e: Ends, p: &[u8]) -> io::Result<()> {
+    say::label(rt, e.label)?;
+    say::phrase(rt, say::PUT)?;
     let called = call(Call::Put, e, p);
     let reply = called.reply;
-    replied(reply);
-    say::phrase(say::HEADER);
-    say::header(packets::read_header(e.settings.limit, p));
-    say::end();
+    replied(rt, reply)?;
+    say::phrase(rt, say::HEADER)?;
+    say::header(rt, packets::read_header(e.settings.limit, p))?;
+    say::end(rt)
 }
 
 // One call with a packet of n octets, of which the first are given and the others 0. The channel stays as it was.
-pub(crate) fn put_long(e: Ends, n: usize, first: &[u8]) -> Ends {
+pub(crate) fn put_long(rt: &impl Print, e: Ends, n: usize, first: &[u8]) -> io::Result<Ends> {
     let mut packet = text::longest(0);
     octets::lay(&mut packet, 0, first, 0, first.len());
-    put_once(e, octets::part(&packet, 0, n));
-    e
+    put_once(rt, e, octets::part(&packet, 0, n))?;
+    Ok(e)
 }

@@ -1,9 +1,9 @@
 // What the lines are made of: phrases with numbers, and octets in hexadecimal.
 use crate::hex::Given;
 use crate::text;
-use libc::STDOUT_FILENO;
 use octets::refusals;
 use packets::{Header, Kind, damage};
+use std::io;
 
 // The phrases, each by its line, from 0, of the text in `numbers`.
 const REFUSED: usize = 0;
@@ -64,28 +64,28 @@ pub(crate) const PATH: usize = 27;
 
 pub(crate) const DAMAGE: usize = 28;
 
-pub(crate) fn text(t: &[u8]) {
-    io::write_all(STDOUT_FILENO, t);
+pub(crate) fn text(rt: &impl Print, t: &[u8]) -> io::Result<()> {
+    rt.write_all(t)
 }
 
-pub(crate) fn end() {
-    text(b"\n");
+pub(crate) fn end(rt: &impl Print) -> io::Result<()> {
+    text(rt, b"\n")
 }
 
 // What a line begins with.
-pub(crate) fn label(l: Given) {
+pub(crate) fn label(rt: &impl Print, l: Given) -> io::Result<()> {
     let given = l.octets;
-    text(octets::part(&given, 0, l.size));
+    text(rt, octets::part(&given, 0, l.size))
 }
 
 // A line of the input, after a space.
-pub(crate) fn line(line: &[u8]) {
-    text(b" ");
-    text(line);
+pub(crate) fn line(rt: &impl Print, line: &[u8]) -> io::Result<()> {
+    text(rt, b" ")?;
+    text(rt, line)
 }
 
 // A text with numbers, each where a `%` stands.
-fn form(form: &[u8], a: u64, b: u64, c: u64, d: u64) {
+fn form(rt: &impl Print, form: &[u8], a: u64, b: u64, c: u64, d: u64) -> io::Result<()> {
     let mut a = a;
     let mut b = b;
     let mut c = c;
@@ -93,20 +93,28 @@ fn form(form: &[u8], a: u64, b: u64, c: u64, d: u64) {
     while i < form.len() {
         let sign = form[i];
         if sign == b'%' {
-            io::print_decimal(STDOUT_FILENO, a);
+            rt.print(a)?;
             a = b;
             b = c;
             c = d;
         } else {
             let shown = [sign];
-            text(&shown);
+            text(rt, &shown)?;
         }
         i += 1;
     }
+    Ok(())
 }
 
 // A phrase with numbers, as many as it has.
-pub(crate) fn numbers(phrase: usize, a: u64, b: u64, c: u64, d: u64) {
+pub(crate) fn numbers(
+    rt: &impl Print,
+    phrase: usize,
+    a: u64,
+    b: u64,
+    c: u64,
+    d: u64,
+) -> io::Result<()> {
     let phrases = b" refused %
  more
  damaged %
@@ -137,85 +145,87 @@ line % is in none of the forms:
  path %
  damage %
 ";
-    form(text::line(phrases, phrase), a, b, c, d);
+    form(rt, text::line(phrases, phrase), a, b, c, d)
 }
 
-pub(crate) fn number(phrase: usize, n: u64) {
-    numbers(phrase, n, 0, 0, 0);
+pub(crate) fn number(rt: &impl Print, phrase: usize, n: u64) -> io::Result<()> {
+    numbers(rt, phrase, n, 0, 0, 0)
 }
 
-pub(crate) fn phrase(phrase: usize) {
-    numbers(phrase, 0, 0, 0, 0);
+pub(crate) fn phrase(rt: &impl Print, phrase: usize) -> io::Result<()> {
+    numbers(rt, phrase, 0, 0, 0, 0)
 }
 
-pub(crate) fn refused(refusal: u8) {
-    number(REFUSED, refusal as u64);
+pub(crate) fn refused(rt: &impl Print, refusal: u8) -> io::Result<()> {
+    number(rt, REFUSED, refusal as u64)
 }
 
 // A refusal of a call that is lent a packet, or makes one, and what is wrong with the header: with the refusal that tells it, and with
 // any that should not.
-pub(crate) fn refused_for(refusal: u8, damage: u8) {
-    refused(refusal);
+pub(crate) fn refused_for(rt: &impl Print, refusal: u8, damage: u8) -> io::Result<()> {
+    refused(rt, refusal)?;
     if (refusal == refusals::PACKET) | (damage != damage::NONE) {
-        number(DAMAGE, damage as u64);
+        number(rt, DAMAGE, damage as u64)?;
     }
+    Ok(())
 }
 
-pub(crate) fn damaged(damage: u8) {
-    number(DAMAGED, damage as u64);
+pub(crate) fn damaged(rt: &impl Print, damage: u8) -> io::Result<()> {
+    number(rt, DAMAGED, damage as u64)
 }
 
 // One octet, after a space.
-fn octet(o: u8) {
+fn octet(rt: &impl Print, o: u8) -> io::Result<()> {
     let digits = b"0123456789ABCDEF";
     let high = octets::octet(digits, (o / 16) as usize);
     let low = octets::octet(digits, (o % 16) as usize);
     let shown = [b' ', high, low];
-    text(&shown);
+    text(rt, &shown)
 }
 
 // Octets, each after a space.
-pub(crate) fn octets(s: &[u8]) {
+pub(crate) fn octets(rt: &impl Print, s: &[u8]) -> io::Result<()> {
     let mut i = 0;
     while i < s.len() {
-        octet(s[i]);
+        octet(rt, s[i])?;
         i += 1;
     }
+    Ok(())
 }
 
 // What octets something has, unless it has none.
-pub(crate) fn shown(s: &[u8]) {
+pub(crate) fn shown(rt: &impl Print, s: &[u8]) -> io::Result<()> {
     if s.len() > 0 {
-        phrase(OCTETS);
+        phrase(rt, OCTETS)?;
     }
-    octets(s);
+    octets(rt, s)
 }
 
 // A packet by its kind, its APID or protocol, and its length; an idle one by its length alone.
-fn kind(kind: Kind, key: u16, idle: bool, total: usize) {
+fn kind(rt: &impl Print, kind: Kind, key: u16, idle: bool, total: usize) -> io::Result<()> {
     if idle {
-        return number(IDLE, total as u64);
+        return number(rt, IDLE, total as u64);
     }
     match kind {
-        Kind::Space => numbers(SPACE, key as u64, total as u64, 0, 0),
-        Kind::Encapsulation => numbers(ENCAPSULATION, key as u64, total as u64, 0, 0),
+        Kind::Space => numbers(rt, SPACE, key as u64, total as u64, 0, 0),
+        Kind::Encapsulation => numbers(rt, ENCAPSULATION, key as u64, total as u64, 0, 0),
     }
 }
 
 // What the header reader says; whether the packet is idle.
-pub(crate) fn header(h: Header) -> bool {
+pub(crate) fn header(rt: &impl Print, h: Header) -> io::Result<bool> {
     match h {
         Header::Refused { refusal } => {
-            refused(refusal);
-            false
+            refused(rt, refusal)?;
+            Ok(false)
         }
         Header::More => {
-            phrase(MORE);
-            false
+            phrase(rt, MORE)?;
+            Ok(false)
         }
         Header::Damaged { damage } => {
-            damaged(damage);
-            false
+            damaged(rt, damage)?;
+            Ok(false)
         }
         Header::Whole {
             kind: of,
@@ -224,8 +234,8 @@ pub(crate) fn header(h: Header) -> bool {
             total,
             ..
         } => {
-            kind(of, key, idle, total);
-            idle
+            kind(rt, of, key, idle, total)?;
+            Ok(idle)
         }
     }
 }

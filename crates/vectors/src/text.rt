@@ -1,7 +1,24 @@
-// Parts of a text.
-ghost use Rattle.std.specs.Prelude.{◌≡◌, ◌≤◌, length};
+// A text: read whole, and its parts.
+ghost use Rattle.std.specs.Prelude.{◌≡◌, ◌≤◌, length, IfOk};
 
 use octets::limits;
+use std::io;
+use std::io::Read;
+
+// Reads until the octets are full or the input ends: how many it put at their front.
+pub(crate) fn read(input: &mut impl Read, octets: &mut [u8]) -> io::Result<usize>
+    ensures { IfOk result (λ n. n ≤ length octets.new) }
+{
+    let mut done = 0;
+    while done < octets.len() {
+        let n = input.read(&mut octets[done..])?;
+        if n == 0 {
+            break;
+        }
+        done += n;
+    }
+    Ok(done)
+}
 
 // As many octets as the longest packet has, all the same.
 pub(crate) fn longest(octet: u8) -> [u8; limits::MOST]

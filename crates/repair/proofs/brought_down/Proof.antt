@@ -9,5 +9,5 @@ returns : tie.Need-returns
 unfolding brought_down
 returns c = rw c.multiple.ensures
 
-pub brought-down-spec : {M : Type 1} → statement M
-brought-down-spec = tie.close (tie.spec (λ c. search rules) (λ c. search rules) (λ c κs. search rules) returns)
+pub brought_down_spec : {M : Type 1} → statement M
+brought_down_spec = tie.close (tie.spec (λ c. search rules) (λ c. search rules) (λ c κs. search rules) returns)

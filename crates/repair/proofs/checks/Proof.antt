@@ -10,5 +10,5 @@ returns : tie.Need-returns
 unfolding checks
 returns c = c.remainder.ensures
 
-pub checks-spec : {M : Type 1} → statement M
-checks-spec = tie.close (tie.spec (λ c. search rules) (λ c κs. omega (arith, c.requires)) returns)
+pub checks_spec : {M : Type 1} → statement M
+checks_spec = tie.close (tie.spec (λ c. search rules) (λ c κs. omega (arith, c.requires)) returns)

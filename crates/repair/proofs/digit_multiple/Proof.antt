@@ -9,16 +9,16 @@ use borrow.Author.Rules.{rules}
 use Rattle.repair.proofs.digit_multiple.Statement.{statement}
 use Rattle.repair.proofs.digit_multiple.Tie as tie
 
-returns : tie.Need-returns
+returns : tie.Need-returns-then-e-i-eq0
 returns c =
-    let a = c.before.args in
-    sym (ap (λ (digit : ℕ). digit * generator_times a.i) c.if1.true ∙ zero-mul (generator_times a.i))
+    let a = c.args in
+    sym (ap (λ (digit : ℕ). digit * generator_times a.i) c.if-e-i-eq0.true ∙ zero-mul (generator_times a.i))
 
-returns-2 : tie.Need-returns-2
+returns-2 : tie.Need-returns-else-e-i-eq0
 returns-2 c =
-    let a = c.before.before.args in
-    let one : a.e / 2 ^ a.i % 2 ≡ 1 = omega (arith, c.before.if1.false) in
+    let a = c.args in
+    let one : a.e / 2 ^ a.i % 2 ≡ 1 = omega (arith, c.if-e-i-eq0.false) in
     c.generator_times.ensures ∙ sym (ap (λ (digit : ℕ). digit * generator_times a.i) one ∙ one-mul (generator_times a.i))
 
-pub digit-multiple-spec : {M : Type 1} → statement M
-digit-multiple-spec = tie.close (tie.spec (λ c. search rules) (λ c κs. search rules) returns returns-2)
+pub digit_multiple_spec : {M : Type 1} → statement M
+digit_multiple_spec = tie.close (tie.spec (λ c. search rules) (λ c κs. search rules) returns returns-2)

@@ -8,7 +8,7 @@ use Rattle.repair.proofs.generator_times.Tie as tie
 
 returns : tie.Need-returns
 unfolding generator_times four
-returns c = rw (c.power3.ensures, c.before.power2.ensures, c.before.before.power.ensures)
+returns c = rw (c.power-2.ensures, c.power.ensures, c.power-cubed.ensures)
 
-pub generator-times-spec : {M : Type 1} → statement M
-generator-times-spec = tie.close (tie.spec (λ c. search rules) (λ c κs. search rules) (λ c. search rules) (λ c. search rules) (λ c. search rules) (λ c κs. search rules) (λ c. search rules) (λ c. search rules) (λ c. search rules) (λ c. search rules) (λ c. search rules) (λ c κs. search rules) (λ c. search rules) (λ c. search rules) returns)
+pub generator_times_spec : {M : Type 1} → statement M
+generator_times_spec = tie.close (tie.spec (λ c. search rules) (λ c κs. search rules) (λ c. search rules) (λ c. search rules) (λ c. search rules) (λ c κs. search rules) (λ c. search rules) (λ c. search rules) (λ c. search rules) (λ c. search rules) (λ c. search rules) (λ c κs. search rules) (λ c. search rules) (λ c. search rules) returns)

@@ -14,7 +14,7 @@ checks-requires c κs = subst (λ (n : ℕ). n < 16 ^ 6) (sym c.six_of.ensures) 
 
 returns : tie.Need-returns
 unfolding header_checks
-returns c = c.checks.ensures ∙ ap checks c.before.six_of.ensures
+returns c = c.checks.ensures ∙ ap checks c.six_of.ensures
 
-pub header-checks-spec : {M : Type 1} → statement M
-header-checks-spec = tie.close (tie.spec (λ c κs. search rules) checks-requires returns)
+pub header_checks_spec : {M : Type 1} → statement M
+header_checks_spec = tie.close (tie.spec (λ c κs. search rules) checks-requires returns)

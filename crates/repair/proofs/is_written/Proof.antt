@@ -12,9 +12,9 @@ use Rattle.repair.proofs.is_written.Tie as tie
 returns : tie.Need-returns
 unfolding written
 returns c =
-    let word = c.before.args.word in
+    let word = c.args.word in
     eqb_iff c.checks.result (word % 65536) word (written (word / 65536))
     (λ e. omega (arith, c.checks.ensures)) (λ e. omega (arith, c.checks.ensures, checks_lt (word / 65536)))
 
-pub is-written-spec : {M : Type 1} → statement M
-is-written-spec = tie.close (tie.spec (λ c κs. search rules) returns)
+pub is_written_spec : {M : Type 1} → statement M
+is_written_spec = tie.close (tie.spec (λ c κs. search rules) returns)

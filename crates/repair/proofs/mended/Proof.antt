@@ -12,55 +12,50 @@ use Rattle.repair.proofs.Reading.{Missed, missed, none_near, found}
 use Rattle.repair.proofs.mended.Statement.{statement}
 use Rattle.repair.proofs.mended.Tie as tie
 
-abbrev invariant-loop : tie.invariant-loop
-invariant-loop word six seven pair₀ pair = (pair ≤ 100) × ((k : ℕ) → k < pair → Missed word k)
+abbrev invariant-loop-pair : tie.invariant-loop-pair
+invariant-loop-pair word six seven pair₀ pair = (pair ≤ 100) × ((k : ℕ) → k < pair → Missed word k)
 
-abbrev decreases-loop : tie.decreases-loop
-decreases-loop word six seven pair₀ pair = 100 - pair
+abbrev decreases-loop-pair : tie.decreases-loop-pair
+decreases-loop-pair word six seven pair₀ pair = 100 - pair
 
-loop-holds : tie.Need-loop-init invariant-loop decreases-loop
+loop-holds : tie.Need-loop-pair-init invariant-loop-pair decreases-loop-pair
 loop-holds c = (omega arith, λ k l. absurd (omega arith))
 
-candidate-requires : tie.Need-candidate-requires invariant-loop decreases-loop
+candidate-requires : tie.Need-candidate-found-requires invariant-loop-pair decreases-loop-pair
 candidate-requires c κs =
-    let at-values = c.before.before.before in
-    ((at-values.before.before.requires, c.if1.true, omega arith), (at-values.before.value.ensures, at-values.value2.ensures))
+    ((c.requires, c.if-p-q.true, omega arith), (c.value-six.ensures, c.value-seven.ensures))
 
-is-written-requires : tie.Need-is-written-requires invariant-loop decreases-loop
-is-written-requires c κs = c.candidate.ensures.short
+is-written-requires : tie.Need-is_written-requires invariant-loop-pair decreases-loop-pair
+is-written-requires c κs = c.candidate-found.ensures.short
 
-returns : tie.Need-returns invariant-loop decreases-loop
+returns : tie.Need-returns-then-is_written invariant-loop-pair decreases-loop-pair
 returns c =
-    let at-candidate = c.before.before in
-    let turn = at-candidate.before.before.before in
-    let word : ℕ = turn.before.before.before.args.word in
-    only_reading word (record { refusal = 0; word = at-candidate.candidate.result })
+    let word : ℕ = c.args.word in
+    only_reading word (record { refusal = 0; word = c.candidate-found.result })
     (read_as refl
-    (found word turn.loop.pair at-candidate.candidate.result at-candidate.candidate.ensures (sym c.before.is-written.ensures ∙ c.if2.true)))
+    (found word c.loop-pair.pair c.candidate-found.result c.candidate-found.ensures (sym c.is_written.ensures ∙ c.if-is_written.true)))
 
-loop-again : tie.Need-loop-preserved invariant-loop decreases-loop
-loop-again c =
-    let turn = c.before.before in (
-      omega arith,
-      below_more _ _ turn.loop.invariant.1
-          (⊎_elim
-          (λ w. missed turn.before.before.before.args.word turn.loop.pair w.1.result w.1.ensures (sym w.2.ensures ∙ w.3.left))
-          (λ w v right l agree. absurd (omega (arith, w.left))) c.if1.branch),
-    )
+loop-again : tie.Need-loop-pair-preserved invariant-loop-pair decreases-loop-pair
+loop-again c = (
+  omega arith,
+  below_more _ _ c.loop-pair.invariant.1
+      (⊎_elim
+      (λ w. missed c.args.word c.loop-pair.pair w.candidate-found.result w.candidate-found.ensures (sym w.is_written.ensures ∙ w.if-is_written.false))
+      (λ w v right l agree. absurd (omega (arith, w.if-p-q.false))) c.if-p-q.branch-raw),
+)
 
-returns-2 : tie.Need-returns-2 invariant-loop decreases-loop
+returns-2 : tie.Need-returns invariant-loop-pair decreases-loop-pair
 returns-2 c =
-    let turn = c.before in
-    let word : ℕ = turn.before.before.before.args.word in
+    let word : ℕ = c.args.word in
     only_reading word (record { refusal = 14; word = 0 })
-    (beyond refl refl (none_near word (λ k l. turn.loop.invariant.1 k (omega arith))))
+    (beyond refl refl (none_near word (λ k l. c.loop-pair.invariant.1 k (omega arith))))
 
-pub mended-spec : {M : Type 1} → statement M
-mended-spec =
+pub mended_spec : {M : Type 1} → statement M
+mended_spec =
     tie.close
     (tie.spec
-    invariant-loop
-    decreases-loop
+    invariant-loop-pair
+    decreases-loop-pair
     (λ c κs. search rules)
     (λ c κs. search rules)
     loop-holds

@@ -7,10 +7,8 @@ use Rattle.repair.proofs.multiple.Tie as tie
 
 returns : tie.Need-returns
 returns c =
-    let at_second = c.before.before in
-    let start = at_second.before.before in
-    rw (c.digit-multiple4.ensures, c.before.digit-multiple3.ensures, at_second.digit-multiple2.ensures, at_second.before.digit-multiple.ensures)
-    (multiple_digits start.args.e start.requires)
+    rw (c.digit_multiple-4.ensures, c.digit_multiple-3.ensures, c.digit_multiple-2.ensures, c.digit_multiple.ensures)
+    (multiple_digits c.args.e c.requires)
 
-pub multiple-spec : {M : Type 1} → statement M
-multiple-spec = tie.close (tie.spec (λ c κs. search rules) (λ c κs. search rules) (λ c κs. search rules) (λ c κs. search rules) returns)
+pub multiple_spec : {M : Type 1} → statement M
+multiple_spec = tie.close (tie.spec (λ c κs. search rules) (λ c κs. search rules) (λ c κs. search rules) (λ c κs. search rules) returns)

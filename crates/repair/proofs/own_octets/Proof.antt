@@ -5,13 +5,13 @@ use borrow.Author.Rules.{rules}
 use Rattle.repair.proofs.own_octets.Statement.{statement}
 use Rattle.repair.proofs.own_octets.Tie as tie
 
-returns : tie.Need-returns
+returns : tie.Need-returns-then-on
 unfolding own_octets
-returns c = rw c.if1.true
+returns c = rw c.if-on.true
 
-returns-2 : tie.Need-returns-2
+returns-2 : tie.Need-returns-else-on
 unfolding own_octets
-returns-2 c = rw c.if1.false
+returns-2 c = rw c.if-on.false
 
-pub own-octets-spec : {M : Type 1} → statement M
-own-octets-spec = tie.close (tie.spec (λ c. search rules) returns returns-2)
+pub own_octets_spec : {M : Type 1} → statement M
+own_octets_spec = tie.close (tie.spec (λ c. search rules) returns returns-2)

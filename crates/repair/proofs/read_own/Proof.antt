@@ -7,15 +7,14 @@ use Rattle.repair.specs.Header.{own_reading}
 use Rattle.repair.proofs.read_own.Statement.{statement}
 use Rattle.repair.proofs.read_own.Tie as tie
 
-returns : tie.Need-returns
+returns : tie.Need-returns-then-not-on
 unfolding own_reading
-returns c = rw (not-true c.before.before.before.args.on c.if1.true, c.before.number6.ensures) refl
+returns c = rw (not-true c.args.on c.if-not-on.true-raw, c.number6-head.ensures) refl
 
-returns-2 : tie.Need-returns-2
+returns-2 : tie.Need-returns
 unfolding own_reading
 returns-2 c =
-    let at-if1 = c.before.before in
-    rw (not-false at-if1.before.before.before.args.on at-if1.if1.false, c.read_header.ensures, c.before.number2.ensures, at-if1.before.number6.ensures) refl
+    rw (not-false c.args.on c.if-not-on.false-raw, c.read_header.ensures, c.number2.ensures, c.number6-head.ensures) refl
 
-pub read-own-spec : {M : Type 1} → statement M
-read-own-spec = tie.close (tie.spec (λ c κs. search rules) returns (λ c κs. search rules) (λ c κs. search rules) returns-2)
+pub read_own_spec : {M : Type 1} → statement M
+read_own_spec = tie.close (tie.spec (λ c κs. search rules) returns (λ c κs. search rules) (λ c κs. search rules) returns-2)

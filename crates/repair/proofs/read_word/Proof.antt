@@ -6,13 +6,12 @@ use Rattle.repair.proofs.Reading.{read_itself}
 use Rattle.repair.proofs.read_word.Statement.{statement}
 use Rattle.repair.proofs.read_word.Tie as tie
 
-returns : tie.Need-returns
+returns : tie.Need-returns-then-is_written
 returns c =
-    let start = c.before.before in
-    read_itself start.args.word start.requires (sym c.before.is-written.ensures ∙ c.if1.true)
+    read_itself c.args.word c.requires (sym c.is_written.ensures ∙ c.if-is_written.true)
 
-returns-2 : tie.Need-returns-2
+returns-2 : tie.Need-returns
 returns-2 c = c.mended.ensures
 
-pub read-word-spec : {M : Type 1} → statement M
-read-word-spec = tie.close (tie.spec (λ c κs. search rules) returns (λ c κs. search rules) returns-2)
+pub read_word_spec : {M : Type 1} → statement M
+read_word_spec = tie.close (tie.spec (λ c κs. search rules) returns (λ c κs. search rules) returns-2)

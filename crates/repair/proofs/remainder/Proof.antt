@@ -14,43 +14,41 @@ use Rattle.repair.proofs.remainder.Statement.{statement}
 use Rattle.repair.proofs.remainder.Tie as tie
 
 -- what is left of all but the last k symbols
-abbrev invariant-loop : tie.invariant-loop
-invariant-loop word left₀ k₀ left k = (k ≤ 6) × (left ≡ four (remainder (10 - k) (word / 2 ^ (4 * k))))
+abbrev invariant-loop-k : tie.invariant-loop-k
+invariant-loop-k word left₀ k₀ left k = (k ≤ 6) × (left ≡ four (remainder (10 - k) (word / 2 ^ (4 * k))))
 
-abbrev decreases-loop : tie.decreases-loop
-decreases-loop word left₀ k₀ left k = k
+abbrev decreases-loop-k : tie.decreases-loop-k
+decreases-loop-k word left₀ k₀ left k = k
 
-loop-holds : tie.Need-loop-init invariant-loop decreases-loop
+loop-holds : tie.Need-loop-k-init invariant-loop-k decreases-loop-k
 loop-holds c = (omega arith, sym (first_four (c.args.word / 2 ^ 24) (omega (arith, c.requires))))
 
-brought-down-requires : tie.Need-brought-down-requires invariant-loop decreases-loop
+brought-down-requires : tie.Need-brought_down-left-requires invariant-loop-k decreases-loop-k
 brought-down-requires c κs =
-    let turn = c.before.before in
-    let w : ℕ = turn.before.args.word in
-    let k : ℕ = turn.loop.k in (
-      subst (λ (n : ℕ). n < 16 ^ 4) (sym turn.loop.invariant.1) (four_lt (remainder (10 - k) (w / 2 ^ (4 * k))) (small (10 - k) (w / 2 ^ (4 * k)))),
+    let w : ℕ = c.args.word in
+    let k : ℕ = c.loop-k.k in (
+      subst (λ (n : ℕ). n < 16 ^ 4) (sym c.loop-k.invariant.1) (four_lt (remainder (10 - k) (w / 2 ^ (4 * k))) (small (10 - k) (w / 2 ^ (4 * k)))),
       subst (λ (n : ℕ). n < 16) (sym c.symbol.ensures) (symbol_lt (k - 1) w),
     )
 
-loop-again : tie.Need-loop-preserved invariant-loop decreases-loop
+loop-again : tie.Need-loop-k-preserved invariant-loop-k decreases-loop-k
 loop-again c =
-    let turn = c.before.before.before in
-    let w : ℕ = turn.before.args.word in
-    let k : ℕ = turn.loop.k in
+    let w : ℕ = c.args.word in
+    let k : ℕ = c.loop-k.k in
     let one_less : k ≡ suc (k - 1) = omega arith in (
       omega arith,
-      c.brought_down.ensures
-          ∙ ap₂ brought_down (turn.loop.invariant.1 ∙ ap (λ (n : ℕ). four (remainder (10 - n) (w / 2 ^ (4 * n)))) one_less) c.before.symbol.ensures
+      c.brought_down-left.ensures
+          ∙ ap₂ brought_down (c.loop-k.invariant.1 ∙ ap (λ (n : ℕ). four (remainder (10 - n) (w / 2 ^ (4 * n)))) one_less) c.symbol.ensures
           ∙ next (k - 1) w (omega arith),
     )
 
-returns : tie.Need-returns invariant-loop decreases-loop
+returns : tie.Need-returns invariant-loop-k decreases-loop-k
 returns c =
-    let w : ℕ = c.before.before.args.word in
-    let none : c.before.loop.k ≡ 0 = omega arith in
-    c.before.loop.invariant.1 ∙ ap (λ (n : ℕ). four (remainder (10 - n) (w / 2 ^ (4 * n)))) none ∙ ap (λ (n : ℕ). four (remainder 10 n)) (div-one w)
+    let w : ℕ = c.args.word in
+    let none : c.loop-k.k ≡ 0 = omega arith in
+    c.loop-k.invariant.1 ∙ ap (λ (n : ℕ). four (remainder (10 - n) (w / 2 ^ (4 * n)))) none ∙ ap (λ (n : ℕ). four (remainder 10 n)) (div-one w)
 
-pub remainder-spec : {M : Type 1} → statement M
-remainder-spec =
+pub remainder_spec : {M : Type 1} → statement M
+remainder_spec =
     tie.close
-    (tie.spec invariant-loop decreases-loop loop-holds (λ c. search rules) (λ c κs. search rules) brought-down-requires (λ c. search rules) loop-again returns)
+    (tie.spec invariant-loop-k decreases-loop-k loop-holds (λ c. search rules) (λ c κs. search rules) brought-down-requires (λ c. search rules) loop-again returns)

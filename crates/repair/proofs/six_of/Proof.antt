@@ -9,17 +9,17 @@ use borrow.Author.Rules.{rules}
 use Rattle.repair.proofs.six_of.Statement.{statement}
 use Rattle.repair.proofs.six_of.Tie as tie
 
-mul-result : tie.Need-overflow-mul-result
-mul-result c = record { fits = omega (arith, c.field.ensures, field_lt c.before.args.head 32 16) }
+mul-result : tie.Need-overflow_mul-result
+mul-result c = record { fits = omega (arith, c.field.ensures, field_lt c.args.head 32 16) }
 
-add-result : tie.Need-overflow-add-result
+add-result : tie.Need-overflow_add-result
 add-result c =
-    let head = c.before.before.args.head in
-    record { fits = omega (arith, c.before.field.ensures, c.field2.ensures, field_lt head 32 16, field_lt head 0 8) }
+    let head = c.args.head in
+    record { fits = omega (arith, c.field.ensures, c.field-2.ensures, field_lt head 32 16, field_lt head 0 8) }
 
 returns : tie.Need-returns
 unfolding six_of
-returns c = ap₂ (λ (x y : ℕ). x * 256 + y) c.before.field.ensures c.field2.ensures
+returns c = ap₂ (λ (x y : ℕ). x * 256 + y) c.before.field.ensures c.field-2.ensures
 
-pub six-of-spec : {M : Type 1} → statement M
-six-of-spec = tie.close (tie.spec (λ c κs. search rules) mul-result (λ c κs. search rules) add-result returns)
+pub six_of_spec : {M : Type 1} → statement M
+six_of_spec = tie.close (tie.spec (λ c κs. search rules) mul-result (λ c κs. search rules) add-result returns)

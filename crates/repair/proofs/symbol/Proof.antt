@@ -9,5 +9,5 @@ returns : tie.Need-returns
 unfolding symbol
 returns c = c.field.ensures
 
-pub symbol-spec : {M : Type 1} → statement M
-symbol-spec = tie.close (tie.spec (λ c. search rules) (λ c. search rules) (λ c κs. search rules) returns)
+pub symbol_spec : {M : Type 1} → statement M
+symbol_spec = tie.close (tie.spec (λ c. search rules) (λ c. search rules) (λ c κs. search rules) returns)

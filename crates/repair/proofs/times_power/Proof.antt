@@ -8,10 +8,8 @@ use Rattle.repair.proofs.times_power.Tie as tie
 
 returns : tie.Need-returns
 returns c =
-    let at_second = c.before.before in
-    let start = at_second.before.before in
-    rw (c.digit-times4.ensures, c.before.digit-times3.ensures, at_second.digit-times2.ensures, at_second.before.digit_times.ensures)
-    (by_digits start.args.e start.args.n start.ranges.e.fits)
+    rw (c.digit_times-4.ensures, c.digit_times-3.ensures, c.digit_times-2.ensures, c.digit_times.ensures)
+    (by_digits c.args.e c.args.n c.ranges.e.fits)
 
-pub times-power-spec : {M : Type 1} → statement M
-times-power-spec = tie.close (tie.spec (λ c κs. search rules) (λ c κs. search rules) (λ c κs. search rules) (λ c κs. search rules) returns)
+pub times_power_spec : {M : Type 1} → statement M
+times_power_spec = tie.close (tie.spec (λ c κs. search rules) (λ c κs. search rules) (λ c κs. search rules) (λ c κs. search rules) returns)

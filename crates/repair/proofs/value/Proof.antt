@@ -14,50 +14,48 @@ use Rattle.repair.proofs.Words.{symbol_lt}
 use Rattle.repair.proofs.value.Statement.{statement}
 use Rattle.repair.proofs.value.Tie as tie
 
-abbrev invariant-loop : tie.invariant-loop
-invariant-loop word j sum₀ k₀ sum k = (k ≤ 10) × (sum ≡ value k j (λ i. symbol i word))
+abbrev invariant-loop-k : tie.invariant-loop-k
+invariant-loop-k word j sum₀ k₀ sum k = (k ≤ 10) × (sum ≡ value k j (λ i. symbol i word))
 
-abbrev decreases-loop : tie.decreases-loop
-decreases-loop word j sum₀ k₀ sum k = 10 - k
+abbrev decreases-loop-k : tie.decreases-loop-k
+decreases-loop-k word j sum₀ k₀ sum k = 10 - k
 
-loop-holds : tie.Need-loop-init invariant-loop decreases-loop
+loop-holds : tie.Need-loop-k-init invariant-loop-k decreases-loop-k
 unfolding value total
 loop-holds c = (omega arith, refl)
 
-cast-symbol : tie.Need-overflow-cast-times-power invariant-loop decreases-loop
+cast-symbol : tie.Need-overflow_cast-symbol invariant-loop-k decreases-loop-k
 cast-symbol c =
-    let turn = c.before.before in
-    record { fits = omega (arith, c.symbol.ensures, symbol_lt turn.loop.k turn.before.args.word) }
+    record { fits = omega (arith, c.symbol.ensures, symbol_lt c.loop-k.k c.args.word) }
 
-module _ (c : tie.After-symbol invariant-loop decreases-loop) where
-  most : c.before.before.before.args.j * c.before.before.loop.k ≤ c.before.before.before.args.j * 10
+module _ (c : tie.After-symbol invariant-loop-k decreases-loop-k) where
+  most : c.args.j * c.loop-k.k ≤ c.args.j * 10
   most =
-      let k-most : c.before.before.loop.k ≤ 10 = omega arith in
-      mul-le-mul_left c.before.before.before.args.j k-most
+      let k-most : c.loop-k.k ≤ 10 = omega arith in
+      mul-le-mul_left c.args.j k-most
 
-mul_power : tie.Need-overflow-mul-times-power invariant-loop decreases-loop
+mul_power : tie.Need-overflow_mul-j invariant-loop-k decreases-loop-k
 mul_power c = record { fits = omega (arith, most c) }
 
-times-power-requires : tie.Need-times-power-requires invariant-loop decreases-loop
+times-power-requires : tie.Need-times_power-sum-requires invariant-loop-k decreases-loop-k
 times-power-requires c κs = omega (arith, most c)
 
-loop-again : tie.Need-loop-preserved invariant-loop decreases-loop
+loop-again : tie.Need-loop-k-preserved invariant-loop-k decreases-loop-k
 unfolding value total
 loop-again c =
-    let turn = c.before.before.before in
-    let a = turn.before.args in (
+    let a = c.args in (
       omega arith,
-      ap₂ bit_xor turn.loop.invariant.1 (c.times_power.ensures ∙ ap (λ (s : ℕ). product s (power (a.j * turn.loop.k))) c.before.symbol.ensures)
-          ∙ ap (λ (k : ℕ). value k a.j (λ i. symbol i a.word)) (sym (add-one turn.loop.k)),
+      ap₂ bit_xor c.loop-k.invariant.1 (c.times_power-sum.ensures ∙ ap (λ (s : ℕ). product s (power (a.j * c.loop-k.k))) c.symbol.ensures)
+          ∙ ap (λ (k : ℕ). value k a.j (λ i. symbol i a.word)) (sym (add-one c.loop-k.k)),
     )
 
-returns : tie.Need-returns invariant-loop decreases-loop
+returns : tie.Need-returns invariant-loop-k decreases-loop-k
 returns c =
-    let a = c.before.before.args in
-    let all : c.before.loop.k ≡ 10 = omega arith in
-    c.before.loop.invariant.1 ∙ ap (λ (k : ℕ). value k a.j (λ i. symbol i a.word)) all
+    let a = c.args in
+    let all : c.loop-k.k ≡ 10 = omega arith in
+    c.loop-k.invariant.1 ∙ ap (λ (k : ℕ). value k a.j (λ i. symbol i a.word)) all
 
 pub value_spec : {M : Type 1} → statement M
 value_spec =
     tie.close
-    (tie.spec invariant-loop decreases-loop loop-holds (λ c κs. search rules) cast-symbol mul_power times-power-requires (λ c. search rules) (λ c. search rules) loop-again returns)
+    (tie.spec invariant-loop-k decreases-loop-k loop-holds (λ c κs. search rules) cast-symbol mul_power times-power-requires (λ c. search rules) (λ c. search rules) loop-again returns)

@@ -7,9 +7,8 @@ use Rattle.aosread.proofs.lines.put.Tie as tie
 
 returns : tie.Need-returns
 returns c =
-    let at_start = c.before.before.before.before.before.before in
-    let a = at_start.args in
-    puts_whole a.out.now a.at a.text.now at_start.requires c.before.before.lay.ensures.left
+    let a = c.args in
+    puts_whole a.out.now a.at a.text.now c.requires c.lay.ensures.left
 
 pub put_spec : {M : Type 1} → statement M
 put_spec = tie.close (tie.spec (λ c κs. search rules) (λ c. search rules) (λ c. search rules) returns)

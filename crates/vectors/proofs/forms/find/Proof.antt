@@ -4,54 +4,54 @@ use Rattle.std.proofs.Common.{◌-◌, ◌≤◌, length, rules}
 use Rattle.vectors.proofs.forms.find.Statement.{statement}
 use Rattle.vectors.proofs.forms.find.Tie as tie
 
-abbrev invariant-loop : tie.invariant-loop
-invariant-loop forms line at₀ k₀ at k = k ≤ at
+abbrev invariant-loop-at : tie.invariant-loop-at
+invariant-loop-at forms line at₀ k₀ at k = k ≤ at
 
-abbrev decreases-loop : tie.decreases-loop
-decreases-loop forms line at₀ k₀ at k = length forms - at
+abbrev decreases-loop-at : tie.decreases-loop-at
+decreases-loop-at forms line at₀ k₀ at k = length forms - at
 
-loop-holds : tie.Need-loop-init invariant-loop decreases-loop
+loop-holds : tie.Need-loop-at-init invariant-loop-at decreases-loop-at
 loop-holds c = search rules
 
-line-end-requires : tie.Need-line-end-requires invariant-loop decreases-loop
+line-end-requires : tie.Need-line_end-end-requires invariant-loop-at decreases-loop-at
 line-end-requires c κs = search rules
 
-sub_part : tie.Need-overflow-sub-part invariant-loop decreases-loop
+sub_part : tie.Need-overflow_sub-end invariant-loop-at decreases-loop-at
 sub_part c = search rules
 
-part-requires : tie.Need-part-requires invariant-loop decreases-loop
+part-requires : tie.Need-part-requires invariant-loop-at decreases-loop-at
 part-requires c κs = search rules
 
-try-form-requires : tie.Need-try-form-requires invariant-loop decreases-loop
+try-form-requires : tie.Need-try_form-numbers-requires invariant-loop-at decreases-loop-at
 try-form-requires c κs = search rules
 
-verb-at-requires : tie.Need-verb-at-requires invariant-loop decreases-loop
+verb-at-requires : tie.Need-verb_at-requires invariant-loop-at decreases-loop-at
 verb-at-requires c κs = search rules
 
-returns : tie.Need-returns invariant-loop decreases-loop
+returns : tie.Need-returns-then-numbers invariant-loop-at decreases-loop-at
 returns c = search rules
 
-add_at : tie.Need-overflow-add-at invariant-loop decreases-loop
+add_at : tie.Need-overflow_add-at invariant-loop-at decreases-loop-at
 add_at c = search rules
 
-add-k : tie.Need-overflow-add-k invariant-loop decreases-loop
+add-k : tie.Need-overflow_add-k invariant-loop-at decreases-loop-at
 add-k c = search rules
 
-loop-less : tie.Need-loop-smaller invariant-loop decreases-loop
+loop-less : tie.Need-loop-at-smaller invariant-loop-at decreases-loop-at
 loop-less c = search rules
 
-loop-again : tie.Need-loop-preserved invariant-loop decreases-loop
+loop-again : tie.Need-loop-at-preserved invariant-loop-at decreases-loop-at
 loop-again c = search rules
 
-returns-2 : tie.Need-returns-2 invariant-loop decreases-loop
+returns-2 : tie.Need-returns invariant-loop-at decreases-loop-at
 returns-2 c = search rules
 
 pub find_spec : {M : Type 1} → statement M
 find_spec =
     tie.close
     (tie.spec
-    invariant-loop
-    decreases-loop
+    invariant-loop-at
+    decreases-loop-at
     loop-holds
     line-end-requires
     sub_part

@@ -4,7 +4,7 @@ use Rattle.std.proofs.Common.{sym, arith, length-take-le, rules}
 use Rattle.vectors.proofs.header.write_into.Statement.{statement}
 use Rattle.vectors.proofs.header.write_into.Tie as tie
 
-slice-aggregate-write-space : tie.Need-slice-aggregate-write-space
+slice-aggregate-write-space : tie.Need-slice_bounds-write_space-end-then-room-out
 slice-aggregate-write-space c = sym (length-take-le _ _ (omega arith))
 
 pub write_into_spec : {M : Type 1} → statement M

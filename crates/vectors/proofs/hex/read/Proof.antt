@@ -4,54 +4,54 @@ use Rattle.std.proofs.Common.{◌-◌, ◌≤◌, length, rules}
 use Rattle.vectors.proofs.hex.read.Statement.{statement}
 use Rattle.vectors.proofs.hex.read.Tie as tie
 
-abbrev invariant-loop : tie.invariant-loop
-invariant-loop line from given₀ at₀ size₀ given at size = size ≤ at
+abbrev invariant-loop-at : tie.invariant-loop-at
+invariant-loop-at line from given₀ at₀ size₀ given at size = size ≤ at
 
-abbrev decreases-loop : tie.decreases-loop
-decreases-loop line from given₀ at₀ size₀ given at size = length line - at
+abbrev decreases-loop-at : tie.decreases-loop-at
+decreases-loop-at line from given₀ at₀ size₀ given at size = length line - at
 
-loop-holds : tie.Need-loop-init invariant-loop decreases-loop
+loop-holds : tie.Need-loop-at-init invariant-loop-at decreases-loop-at
 loop-holds c = search rules
 
-octet-requires : tie.Need-octet-requires invariant-loop decreases-loop
+octet-requires : tie.Need-octet-octet-requires invariant-loop-at decreases-loop-at
 octet-requires c κs = search rules
 
-returns : tie.Need-returns invariant-loop decreases-loop
+returns : tie.Need-returns-then-octet-gt255 invariant-loop-at decreases-loop-at
 returns c = search rules
 
-cast-given : tie.Need-overflow-cast-given invariant-loop decreases-loop
+cast-given : tie.Need-overflow_cast-given invariant-loop-at decreases-loop-at
 cast-given c = search rules
 
-array-write-given : tie.Need-array-write-given invariant-loop decreases-loop
+array-write-given : tie.Need-bounds-given-size invariant-loop-at decreases-loop-at
 array-write-given c = search rules
 
-add_at : tie.Need-overflow-add-at invariant-loop decreases-loop
+add_at : tie.Need-overflow_add-at invariant-loop-at decreases-loop-at
 add_at c = search rules
 
-add-size : tie.Need-overflow-add-size invariant-loop decreases-loop
+add-size : tie.Need-overflow_add-size invariant-loop-at decreases-loop-at
 add-size c = search rules
 
-loop-less : tie.Need-loop-smaller invariant-loop decreases-loop
+loop-less : tie.Need-loop-at-smaller invariant-loop-at decreases-loop-at
 loop-less c = search rules
 
-loop-again : tie.Need-loop-preserved invariant-loop decreases-loop
+loop-again : tie.Need-loop-at-preserved invariant-loop-at decreases-loop-at
 loop-again c = search rules
 
-add-if3 : tie.Need-overflow-add-if3 invariant-loop decreases-loop
+add-if3 : tie.Need-overflow_add-line invariant-loop-at decreases-loop-at
 add-if3 c = search rules
 
-returns-2 : tie.Need-returns-2 invariant-loop decreases-loop
+returns-2 : tie.Need-returns-then-at-line invariant-loop-at decreases-loop-at
 returns-2 c = search rules
 
-returns-3 : tie.Need-returns-3 invariant-loop decreases-loop
+returns-3 : tie.Need-returns-else-at-line invariant-loop-at decreases-loop-at
 returns-3 c = search rules
 
 pub read_spec : {M : Type 1} → statement M
 read_spec =
     tie.close
     (tie.spec
-    invariant-loop
-    decreases-loop
+    invariant-loop-at
+    decreases-loop-at
     loop-holds
     octet-requires
     returns

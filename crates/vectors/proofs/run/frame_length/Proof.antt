@@ -5,8 +5,8 @@ use Rattle.trailer.proofs.Setting.{extra_small}
 use Rattle.vectors.proofs.run.frame_length.Statement.{statement}
 use Rattle.vectors.proofs.run.frame_length.Tie as tie
 
-add-result-2 : tie.Need-overflow-add-result-2
-add-result-2 c = record { fits = omega (arith, c.extra.ensures, extra_small c.before.before.args.s.link.trailed) }
+add-result-2 : tie.Need-overflow_add-result-2
+add-result-2 c = record { fits = omega (arith, c.extra.ensures, extra_small c.args.s.link.trailed) }
 
-pub frame-length-spec : {M : Type 1} → statement M
-frame-length-spec = tie.close (tie.spec (λ c. search rules) (λ c. search rules) (λ c κs. search rules) add-result-2 (λ c. search rules))
+pub frame_length_spec : {M : Type 1} → statement M
+frame_length_spec = tie.close (tie.spec (λ c. search rules) (λ c. search rules) (λ c κs. search rules) add-result-2 (λ c. search rules))
