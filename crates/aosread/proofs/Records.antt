@@ -31,7 +31,7 @@ unfolding part
 part_first from to buf h =
     get_or-take (to - from) (drop from buf) 0 0 (omega arith) ∙ get_or-drop from buf 0 0 ∙ ap (λ (n : ℕ). get_or buf n 0) (add-zero from)
 
-part_none : (from to : ℕ) (buf : List ℕ) → to ≡ from → part from to buf ≡ []
+pub part_none : (from to : ℕ) (buf : List ℕ) → to ≡ from → part from to buf ≡ []
 unfolding part
 part_none from to buf e =
     let none : to - from ≡ 0 = omega arith in ap (λ (n : ℕ). take n (drop from buf)) none
@@ -56,7 +56,7 @@ part-cons from end buf h k =
 -- ---- what stands first
 
 -- is no longer than that in which it stands
-first_most : (u v : Unread) (before after : List ℕ) → Inside u before → Inside v after → StandFirst u before (unread v after)
+pub first_most : (u v : Unread) (before after : List ℕ) → Inside u before → Inside v after → StandFirst u before (unread v after)
     → u.to - u.from ≤ v.to - v.from
 first_most u v before after h k e =
     omega (arith, length_part u.from u.to before h, length_part v.from v.to after k, ap length e, length-take (u.to - u.from) (unread v after))

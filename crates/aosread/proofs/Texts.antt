@@ -9,15 +9,17 @@ use native.Mathlib.Numerals.{add-one}
 use native.Mathlib.Omega.{arith}
 use lib.ListN.{length, take, drop, set, length-append, length-set, take-append-drop}
 use lib.Seq.{take-length}
+use lib.Dec.{ltb}
 use borrow.Author.Tests.{lt-ltb, le-ltb}
 use Rattle.std.proofs.Common.{append_assoc}
 use Rattle.std.proofs.lemmas.List.{drop-set}
 use Rattle.octets.specs.Basics.{over, laid_part}
+use Rattle.octets.proofs.Tests.{test}
 use Rattle.octets.proofs.Written.{part_within, length_over, over_over}
 use Rattle.packets.specs.declared.Kind.{Kind}
 use Rattle.packets.specs.declared.Kind.TheVariants.{Space, Encapsulation}
 use Rattle.packets.specs.declared.Header.TheVariants.{Whole}
-use Rattle.aosread.specs.Lines.{ascii, digits, decimal, last, two, packet_line, Puts}
+use Rattle.aosread.specs.Lines.{ascii, digits, decimal, named, last, two, packet_line, Puts}
 
 -- a text is laid whole
 pub puts_whole : (d : List ℕ) (at : ℕ) (text : List ℕ) {after : List ℕ} → at + length text ≤ length d
@@ -108,3 +110,13 @@ module _ (kind : Kind) (key : ℕ) (idle : Bool) (size total : ℕ) where
   pub encap_line : kind ≡ Encapsulation → idle ≡ false → packet_line (Whole kind key idle size total) ≡ two (ascii "encap ") key (ascii " ") total
   unfolding packet_line
   encap_line k i = rw (i, k) refl
+
+-- so many at most
+pub digits_most : (k n : ℕ) → length (digits k n) ≤ k
+unfolding digits
+digits_most zero n = omega arith
+digits_most (suc k) n =
+    test (ltb n 10) (λ t. rw t (omega arith)) (λ t. rw (t, length-append) (omega (arith, digits_most k (n / 10))))
+
+pub named_most : (name : List ℕ) (n : ℕ) → length (named name n) ≤ length name + 20
+named_most name n = omega (arith, length-append name (decimal n), digits_most 20 n)
