@@ -1,6 +1,6 @@
 // Standard input: the records of a run, out of a buffer that large reads fill.
 ghost use Rattle.std.specs.Prelude.{◌≡◌, ◌+◌, ◌≤◌, length, take, drop};
-ghost use Rattle.aosread.specs.Input.{Inside, unread as unread-in, StandFirst, Follows};
+ghost use Rattle.aosread.specs.Input.{Inside, unread as unread_in, StandFirst, Follows};
 
 use runfile::Progress;
 use std::io;
@@ -67,7 +67,7 @@ fn read_behind(rt: &(impl Input + Eprint), buf: &mut [u8], to: usize) -> usize
 fn wait_for(rt: &(impl Input + Eprint), buf: &mut [u8], unread: Unread, n: usize) -> Unread
     requires { Inside unread buf.old }
     ensures inside { Inside result buf.new }
-    ensures stand_first { StandFirst unread buf.old (unread-in result buf.new) }
+    ensures stand_first { StandFirst unread buf.old (unread_in result buf.new) }
 {
     let from = unread.from;
     let there = unread.to - from;

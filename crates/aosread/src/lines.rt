@@ -1,6 +1,6 @@
 // The lines of the output, each put into a buffer behind the octets that wait there.
 ghost use Rattle.std.specs.Prelude.{◌≡◌, ◌+◌, ◌≤◌, length, drop};
-ghost use Rattle.aosread.specs.Lines.{ascii, decimal as digits-of, named as named-text, last as last-text, two as two-text, setup_line, entered_line, packet_line, step_line, verdict_line, Puts, Room};
+ghost use Rattle.aosread.specs.Lines.{ascii, decimal as digits_of, named as named_text, last as last_text, two as two_text, setup_line, entered_line, packet_line, step_line, verdict_line, Puts, Room};
 
 use extractor::{Entered, Found};
 use frames::Settings;
@@ -21,7 +21,7 @@ fn put(out: &mut [u8], at: usize, text: &[u8]) -> usize
 // The decimal digits of a number, put at the end of twenty octets; where they begin.
 fn decimal(n: u64, digits: &mut [u8; 20]) -> usize
     ensures in_bounds { result ≤ 20 }
-    ensures digits { drop result digits.new ≡ digits-of n }
+    ensures digits { drop result digits.new ≡ digits_of n }
 {
     let mut from = 19;
     let mut rest = n;
@@ -37,7 +37,7 @@ fn decimal(n: u64, digits: &mut [u8; 20]) -> usize
 // A number's decimal digits behind its name.
 fn named(out: &mut [u8], at: usize, name: &[u8], n: u64) -> usize
     requires { at + (length name.now + 20) ≤ length out.old }
-    ensures puts { Puts out.old at (named-text name.now n) out.new result }
+    ensures puts { Puts out.old at (named_text name.now n) out.new result }
     ensures upper_bound { result ≤ at + (length name.now + 20) }
 {
     let mut digits = [0u8; 20];
@@ -49,7 +49,7 @@ fn named(out: &mut [u8], at: usize, name: &[u8], n: u64) -> usize
 // The same at the end of a line.
 fn last(out: &mut [u8], at: usize, name: &[u8], n: u64) -> usize
     requires { at + (length name.now + 21) ≤ length out.old }
-    ensures { Puts out.old at (last-text name.now n) out.new result }
+    ensures { Puts out.old at (last_text name.now n) out.new result }
 {
     let at = named(out, at, name, n);
     put(out, at, b"\n")
@@ -58,7 +58,7 @@ fn last(out: &mut [u8], at: usize, name: &[u8], n: u64) -> usize
 // Two numbers, the second at the end of a line.
 fn two(out: &mut [u8], at: usize, first: &[u8], a: u64, second: &[u8], b: u64) -> usize
     requires { at + (length first.now + (length second.now + 41)) ≤ length out.old }
-    ensures { Puts out.old at (two-text first.now a second.now b) out.new result }
+    ensures { Puts out.old at (two_text first.now a second.now b) out.new result }
 {
     let at = named(out, at, first, a);
     last(out, at, second, b)
@@ -154,7 +154,7 @@ pub(crate) fn verdict(out: &mut [u8], at: usize, c: Closed) -> usize
 
 pub(crate) fn bad_record(out: &mut [u8], at: usize, n: u64) -> usize
     requires { Room at out.old }
-    ensures { Puts out.old at (last-text (ascii "bad record ") n) out.new result }
+    ensures { Puts out.old at (last_text (ascii "bad record ") n) out.new result }
 {
     last(out, at, b"bad record ", n)
 }

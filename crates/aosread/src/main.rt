@@ -16,6 +16,11 @@ use std::io;
 mod input;
 mod lines;
 
+// The octets of the input and of the text that wait, and those of a store: no setup has a longer packet.
+const WAITING: usize = 65536;
+
+const STORE: usize = 4096;
+
 // The extractor's record after a frame, and how many octets of text wait to be written.
 #[derive(Clone, Copy)]
 struct Heard {
@@ -252,10 +257,10 @@ fn read_run(
 }
 
 fn main(rt: HostRuntime) {
-    let mut buf = [0u8; 65536];
-    let mut store = [0u8; 4096];
-    let mut tried = [0u8; 4096];
-    let mut out = [0u8; 65536];
+    let mut buf = [0u8; WAITING];
+    let mut store = [0u8; STORE];
+    let mut tried = [0u8; STORE];
+    let mut out = [0u8; WAITING];
     let waiting = read_run(&rt, &mut buf, &mut store, &mut tried, &mut out);
     flush(&rt, &out, waiting);
 }

@@ -1,4 +1,5 @@
-// The library for C and Rust: `include/itzahuemo.h` declares these functions and says what each number stands for.
+// The library for C and Rust, on numbers and octet slices: `include/itzahuemo.h` says what each number stands for, and `exports_c` hands these
+// functions to C.
 #![tactic(auto)]
 
 mod bits;

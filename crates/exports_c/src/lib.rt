@@ -202,7 +202,6 @@ pub extern "C" fn itz_bits_read(
     exports::itz_bits_read(settings, record, frame, answer)
 }
 
-// The old table stays in its array where the load is refused.
 #[unsafe(no_mangle)]
 pub extern "C" fn itz_relay_load(entries: &[u64], table: &mut [u64]) -> u64
     ensures { left result table.new [] [] ≡ load_leaves entries.now table.old }

@@ -13,14 +13,14 @@ use Rattle.frames.specs.declared.Settings.{Settings}
 use Rattle.frames.specs.declared.bits.BitSettings.{BitSettings}
 
 -- headers that were written with this count, replay flag and pointer, read back field by field: all spare bits are 0, and the usage is the channel's
-pub record HeadersBack (l : Link) (zone-spare-at pointer_at : Place) (c r p : ℕ) (f : List ℕ) : Type 0 where
+pub record HeadersBack (l : Link) (zone_spare_at pointer_at : Place) (c r p : ℕ) (f : List ℕ) : Type 0 where
   pub version_back : read version_place (primary l f) ≡ 1
   pub spacecraft_back : read spacecraft_place (primary l f) ≡ l.spacecraft
   pub channel_back : read channel_place (primary l f) ≡ l.channel
   pub count_back : count_in l.edition (primary l f) ≡ c
   pub replay_back : read replay_place (primary l f) ≡ r
   pub signal_back : signals l.edition (primary l f) ≡ true
-  pub zone_spare_back : read zone-spare-at (zone_head l f) ≡ 0
+  pub zone_spare_back : read zone_spare_at (zone_head l f) ≡ 0
   pub pointer_back : read pointer_at (zone_head l f) ≡ p
 
 -- a frame that begins with written headers is read back; and a frame that is not refused is its headers, written again from what

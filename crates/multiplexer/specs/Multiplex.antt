@@ -67,11 +67,11 @@ pub record Put : Type 0 where
 unfoldable pub put : Settings → Mux → List ℕ → List ℕ → Put
 put s m p frame =
     let n : ℕ = fits_now s m p in
-    let over-packet : Bool = eqb (m.taken + n) (length p) in
+    let over_packet : Bool = eqb (m.taken + n) (length p) in
     record {
       full = eqb (m.filled + n) s.zone;
-      taken = over-packet;
-      mux = filled_mux s m (start_now m) n (pick over-packet 0 (m.taken + n));
+      taken = over_packet;
+      mux = filled_mux s m (start_now m) n (pick over_packet 0 (m.taken + n));
       frame = filled_frame s m (start_now m) (part m.taken (m.taken + n) p) frame;
     }
 

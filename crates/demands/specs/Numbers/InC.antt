@@ -128,7 +128,7 @@ pub record Judge : Type 0 where
       ≡ left 0 (1 ∷ 3 ∷ 2 ∷ 0 ∷ []) (0xE9 ∷ 0x05 ∷ 0x11 ∷ 0x22 ∷ 0x33 ∷ lent 7) [] ∷ left 0 (2 ∷ 3 ∷ 2 ∷ 0 ∷ []) (0xE9 ∷ 0x05 ∷ 0x11 ∷ 0x22 ∷ 0x33 ∷ lent 7) [] ∷ []
   pub tape_edges : map (λ (os : List ℕ). tape_leaves settings (1 ∷ 16777216 ∷ 0 ∷ 2 ∷ []) store os) ([] ∷ frame 1 0x00 0x03 rest ∷ lent 17 ∷ [])
       ≡ map (λ (n : ℕ). left n (1 ∷ 16777216 ∷ 0 ∷ 2 ∷ []) store []) (0 ∷ 11 ∷ 3 ∷ [])
-  pub closed : map (λ (record-array : List ℕ). close_leaves settings record-array store (lent 2)) ((0 ∷ 0 ∷ 0 ∷ 0 ∷ []) ∷ (1 ∷ 1 ∷ 0 ∷ 2 ∷ []) ∷ (2 ∷ 5 ∷ 3 ∷ 0 ∷ []) ∷ (3 ∷ 0 ∷ 0 ∷ 0 ∷ []) ∷ [])
+  pub closed : map (λ (record_array : List ℕ). close_leaves settings record_array store (lent 2)) ((0 ∷ 0 ∷ 0 ∷ 0 ∷ []) ∷ (1 ∷ 1 ∷ 0 ∷ 2 ∷ []) ∷ (2 ∷ 5 ∷ 3 ∷ 0 ∷ []) ∷ (3 ∷ 0 ∷ 0 ∷ 0 ∷ []) ∷ [])
       ≡ left 0 [] [] (1 ∷ 0 ∷ []) ∷ left 0 [] [] (2 ∷ 1 ∷ []) ∷ left 0 [] [] (2 ∷ 3 ∷ []) ∷ left 10 [] [] (0 ∷ 0 ∷ []) ∷ []
 
 -- a writer's record: the count; a reader's: whether a frame was read, its count, and whether a loss waits; an answer: count, replay, loss, bits,
