@@ -14,7 +14,7 @@ use Rattle.packets.specs.Packet.{end_to_end}
 use Rattle.frames.specs.Frame.{idle_zone, in_range, zone_of, pointer}
 use Rattle.frames.specs.declared.Settings.{Settings}
 use Rattle.frames.proofs.Settled.{Settled, settled}
-use Rattle.extractor.specs.Extract.{astray, in_step, fresh, marked, any_torn, agreed, reason_by, reason_in, lost_since, walked, told, heard}
+use Rattle.extractor.specs.Extract.{astray, in_step, fresh, any_torn, agreed, reason_by, reason_in, lost_since, walked, told, heard}
 use Rattle.extractor.proofs.Walked.{begun-nil, begun_first}
 use Rattle.judge.specs.Judge.{opened, pass, verdict}
 use Rattle.judge.proofs.Faults.{Passes}

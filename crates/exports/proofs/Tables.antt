@@ -10,7 +10,7 @@ use lib.ListN.{length, take, drop, get_or, replicate, length-take, length-append
 use lib.Seq.{take_all, length-take-le}
 use lib.Dec.{ltb, eqb}
 use borrow.Author.Tests.{lt-ltb, not-false, eqb-true, le-ltb, ltb-false}
-use Rattle.octets.specs.Basics.{All, or, first, over}
+use Rattle.octets.specs.Basics.{All, or, over}
 use Rattle.octets.proofs.Tests.{test, or_all}
 use Rattle.octets.proofs.Choices.{or_false, apart}
 use Rattle.octets.proofs.Fronts.{all_joined}

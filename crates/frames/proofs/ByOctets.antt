@@ -1,6 +1,6 @@
 -- What a frame is refused for, by its octets.
 -- Assumes nothing.
-use Rattle.std.proofs.Common.{◌≡◌, ℕ, ◌+◌, ◌-◌, ◌*◌, ◌/◌, ◌%◌, ◌^◌, ◌<◌, Bool, true, false, not, eqb, ltb, List, [], ◌∷◌, length, refl, ap, ◌∙◌, arith, ltb-true, eq-eqb}
+use Rattle.std.proofs.Common.{◌≡◌, ℕ, ◌+◌, ◌*◌, ◌/◌, ◌%◌, ◌^◌, ◌<◌, Bool, true, false, not, eqb, ltb, List, [], ◌∷◌, length, refl, ap, ◌∙◌, arith, ltb-true, eq-eqb}
 use borrow.Author.Tests.{not-false}
 use Rattle.octets.specs.Basics.{and, AllOctets, number, number_from, Row, row, first}
 use Rattle.octets.proofs.Choices.{none_holds, and_true, refusal_kept}

@@ -2,18 +2,16 @@
 -- Assumes nothing.
 use mathlib.Core.Path.{◌≡◌, refl, sym, ap, ap₂, ◌∙◌, subst}
 use Prim.Native.Nat.{ℕ, ◌+◌, ◌*◌, ◌/◌, ◌%◌, ◌^◌, ◌<◌, ◌≤◌}
-use mathlib.Core.List.{List, [], ◌∷◌}
-use mathlib.Core.Bool.{Bool, true, false}
+use mathlib.Core.List.{[], ◌∷◌}
+use mathlib.Core.Bool.{Bool}
 use native.Mathlib.Nat.{mod-eq_of_lt}
 use native.Mathlib.Omega.{arith}
-use lib.Dec.{eqb}
 use borrow.Author.Tests.{eq-eqb, ne_eqb}
 use Rattle.octets.specs.Basics.{pick, number, number_from}
 use Rattle.words.specs.Fields.{field, placed, join}
-use Rattle.repair.specs.Code.{symbol, checks, written, reading, distance, Near}
+use Rattle.repair.specs.Code.{written, reading, distance, Near}
 use Rattle.repair.specs.Header.{six_of, header_checks, covered, with_six, header_of, header_reading}
 use Rattle.repair.specs.declared.Repaired.{Repaired}
-use Rattle.repair.specs.declared.Header.{Header}
 use Rattle.repair.proofs.Roots.{checks_lt}
 use Rattle.repair.proofs.Nearest.{read_as_sent, refused_when_none}
 

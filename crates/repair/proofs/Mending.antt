@@ -1,9 +1,9 @@
 -- A rightly written word that differs from another at two places only, found from that other's values at a^6 and a^7.
 -- Assumes nothing.
 use mathlib.Core.Path.{◌≡◌, refl, sym, ap, ap₂, ◌∙◌, subst⁻¹, fun_ext}
-use mathlib.Core.Bool.{Bool, true, false}
-use Prim.Native.Nat.{ℕ, zero, suc, ◌+◌, ◌-◌, ◌*◌, ◌/◌, ◌%◌, ◌^◌, ◌<◌, ◌≤◌}
-use native.Mathlib.Nat.{lt_of_lt_of_le, add-mul, one-mul}
+use mathlib.Core.Bool.{Bool}
+use Prim.Native.Nat.{ℕ, zero, suc, ◌+◌, ◌-◌, ◌*◌, ◌^◌, ◌<◌, ◌≤◌}
+use native.Mathlib.Nat.{lt_of_lt_of_le}
 use native.Mathlib.Omega.{arith}
 use lib.Dec.{eqb}
 use lib.Pow.{shl_lt, pow_mono}
@@ -13,10 +13,10 @@ use Rattle.octets.specs.Basics.{pick}
 use Rattle.octets.proofs.Tests.{test}
 use Rattle.repair.specs.Field.{power, product}
 use Rattle.repair.specs.Values.{value, Exponent, Amount, Candidate}
-use Rattle.repair.specs.Code.{symbol, Written, distance, Near}
+use Rattle.repair.specs.Code.{symbol, Written, distance}
 use Rattle.octets.proofs.Sums.{crosswise}
 use Rattle.repair.proofs.Sums.{xor_twice}
-use Rattle.repair.proofs.Laws.{product_comm, product_assoc, product_xor, xor_product, swap, product_one, product_lt, cancel, power-add, power_lt, powers_apart, round}
+use Rattle.repair.proofs.Laws.{product_comm, product_assoc, product_xor, swap, product_one, product_lt, cancel, power-add, power_lt, powers_apart, round}
 use Rattle.repair.proofs.Table.{quotient}
 use Rattle.repair.proofs.Values.{value_xor, value_only, count, count_xor, count_only}
 use Rattle.repair.proofs.Words.{symbol_lt, symbol_xor, same_symbols, unit_at, apart_count}

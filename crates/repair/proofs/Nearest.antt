@@ -1,16 +1,16 @@
 -- At most one rightly written word differs from a word in two symbols or fewer, and how a word is read is determined.
 -- Assumes nothing.
 use mathlib.Core.Path.{◌≡◌, refl, sym, ap, ap₂, ◌∙◌, subst, fun_ext}
-use Prim.Native.Nat.{ℕ, zero, suc, ◌+◌, ◌*◌, ◌/◌, ◌%◌, ◌^◌, ◌<◌, ◌≤◌}
+use Prim.Native.Nat.{ℕ, zero, suc, ◌+◌, ◌^◌, ◌<◌, ◌≤◌}
 use native.Mathlib.Omega.{arith}
-use mathlib.Core.Bool.{Bool, true, false}
+use mathlib.Core.Bool.{false}
 use lib.Dec.{leb, eqb}
 use lib.Bits.{bit_xor, xor_self}
 use borrow.Author.Tests.{leb-true, leb-false, eqb-true, eqb-false}
 use Rattle.octets.proofs.Tests.{test}
 use Rattle.octets.proofs.Choices.{apart}
 use Rattle.repair.specs.Values.{value}
-use Rattle.repair.specs.Code.{symbol, checks, written, Written, distance, reading_below, reading, Near, Reads, read_as, beyond}
+use Rattle.repair.specs.Code.{symbol, written, Written, distance, reading_below, reading, Near, Reads, read_as, beyond}
 use Rattle.repair.specs.declared.Repaired.{Repaired}
 use Rattle.octets.proofs.Sums.{xor_apart, crosswise}
 use Rattle.repair.proofs.Values.{value_xor, count, count_xor, light}

@@ -7,7 +7,7 @@ use native.Mathlib.Omega.{arith}
 use lib.Dec.{eqb}
 use lib.Bits.{bit_xor}
 use borrow.Author.Tests.{eqb-true, eqb-false}
-use Rattle.repair.specs.Code.{symbol, checks, written, Written, distance, reading, Near, read_as}
+use Rattle.repair.specs.Code.{symbol, checks, written, Written, reading, Near, read_as}
 use Rattle.repair.specs.Values.{Candidate}
 use Rattle.repair.proofs.Roots.{checks_lt}
 use Rattle.repair.proofs.Words.{distance_none, apart_count, two_places}

@@ -1,8 +1,8 @@
 -- The generator's roots, and that every rightly written word has them.
 -- Assumes nothing.
-use mathlib.Core.Path.{◌≡◌, refl, sym, ap, ap₂, ◌∙◌, subst, fun_ext}
-use mathlib.Core.Bool.{Bool, true, false}
-use Prim.Native.Nat.{ℕ, zero, suc, ◌+◌, ◌-◌, ◌*◌, ◌/◌, ◌%◌, ◌^◌, ◌<◌, ◌≤◌}
+use mathlib.Core.Path.{◌≡◌, refl, sym, ap, ap₂, ◌∙◌, fun_ext}
+use mathlib.Core.Bool.{true}
+use Prim.Native.Nat.{ℕ, zero, suc, ◌+◌, ◌*◌, ◌/◌, ◌%◌, ◌^◌, ◌<◌, ◌≤◌}
 use native.Mathlib.Nat.{mul-suc, mul-zero, mul-one, add_comm, div-eq_of_lt, lt_of_lt_of_le, zero-add, suc-add}
 use native.Mathlib.Omega.{arith}
 use lib.Dec.{eqb}
@@ -10,7 +10,6 @@ use lib.Pow.{pow_mono}
 use lib.Bits.{bit_xor, xor_comm, xor_lt, xor_self, xor_zero_r, xor_shifted}
 use borrow.Author.Tests.{eqb-true}
 use Rattle.words.specs.Fields.{field}
-use Rattle.octets.proofs.Choices.{split}
 use Rattle.repair.specs.Field.{times_root, power, product_from, product}
 use Rattle.repair.specs.Values.{total, value}
 use Rattle.repair.specs.Code.{Register, symbol, divided, remainder, four, checks, written, Written}
@@ -19,7 +18,7 @@ use Rattle.octets.proofs.Sums.{xor_assoc, crosswise}
 use Rattle.repair.proofs.Sums.{xor_swap}
 use Rattle.repair.proofs.Laws.{product_comm, product_assoc, product_xor, xor_product, swap, product-zero, product_one, product_lt, power-add, power_zero}
 use Rattle.repair.proofs.Values.{total_first, total_times, value_xor}
-use Rattle.repair.proofs.Words.{symbol_lt, symbol_first, symbol_next, symbol_xor}
+use Rattle.repair.proofs.Words.{symbol_first, symbol_next, symbol_xor}
 
 -- the four symbols of a remainder are symbols
 pub record Small (r : Register) : Type 0 where

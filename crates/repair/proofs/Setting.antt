@@ -2,10 +2,9 @@
 -- Assumes nothing.
 use mathlib.Core.Path.{◌≡◌, refl, sym, ap, ap₂, ◌∙◌, subst}
 use mathlib.Core.Logic.{◌⊎◌, inl, inr}
-use mathlib.Core.List.{List, [], ◌∷◌, ◌++◌, append_assoc, append-nil}
+use mathlib.Core.List.{List, [], ◌++◌, append_assoc, append-nil}
 use mathlib.Core.Bool.{Bool, true, false}
 use Prim.Native.Nat.{ℕ, ◌+◌, ◌*◌, ◌/◌, ◌%◌, ◌^◌, ◌<◌, ◌≤◌}
-use native.Mathlib.Nat.{mod-eq_of_lt}
 use native.Mathlib.Omega.{arith}
 use lib.ListN.{length, take, drop, length-append, length-drop, take-append-drop}
 use lib.Seq.{take_at, drop_at}
@@ -15,9 +14,9 @@ use Rattle.octets.proofs.Fronts.{all_append, all_drop, all_octets}
 use Rattle.octets.proofs.Numbers.{number_octets, octets_again}
 use Rattle.octets.proofs.Written.{length-octets, laid_within, length_over, over_over}
 use Rattle.words.specs.Fields.{field, placed}
-use Rattle.words.proofs.Fields.{placed_read, placed_below, placed_above, placed_lt, placed_within, field_within}
-use Rattle.repair.specs.Code.{checks, written, distance, reading, Near, Reads, read_as, beyond}
-use Rattle.repair.specs.Header.{six_of, header_checks, covered, with_six, header_of, header_reading, own_octets, own_written, checked, own_reading, own_header}
+use Rattle.words.proofs.Fields.{placed_read, placed_below, placed_above, placed_lt, placed_within}
+use Rattle.repair.specs.Code.{written, distance, reading, Near, Reads, read_as, beyond}
+use Rattle.repair.specs.Header.{six_of, header_checks, covered, with_six, header_reading, own_octets, own_written, checked, own_reading, own_header}
 use Rattle.repair.specs.Changes.{ten_symbols, most_changed, Legible}
 use Rattle.repair.specs.Statements.{HeaderRead}
 use Rattle.repair.specs.declared.Header.{Header}

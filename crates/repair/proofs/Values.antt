@@ -3,9 +3,9 @@
 -- Assumes nothing.
 use mathlib.Core.Path.{◌≡◌, refl, sym, ap, ap₂, ◌∙◌, subst, fun_ext}
 use mathlib.Core.Logic.{◌⊎◌, inl, inr}
-use mathlib.Core.Bool.{Bool, true, false, not}
-use Prim.Native.Nat.{ℕ, zero, suc, ◌+◌, ◌-◌, ◌*◌, ◌/◌, ◌%◌, ◌^◌, ◌<◌, ◌≤◌}
-use native.Mathlib.Nat.{add-mul, one-mul, add_comm, suc-mul}
+use mathlib.Core.Bool.{Bool, true, false}
+use Prim.Native.Nat.{ℕ, zero, suc, ◌+◌, ◌*◌, ◌<◌, ◌≤◌}
+use native.Mathlib.Nat.{add-mul, one-mul, add_comm}
 use native.Mathlib.Omega.{arith}
 use lib.Dec.{eqb}
 use lib.Bits.{bit_xor, xor_lt, xor_self, xor_zero_r}
@@ -14,8 +14,8 @@ use Rattle.octets.specs.Basics.{pick}
 use Rattle.octets.proofs.Tests.{test}
 use Rattle.repair.specs.Field.{power, product}
 use Rattle.repair.specs.Values.{total, value}
-use Rattle.octets.proofs.Sums.{xor_assoc, xor_apart, crosswise}
-use Rattle.repair.proofs.Laws.{product_comm, product_assoc, product_xor, xor_product, swap, product-zero, zero-product, product_lt, no_factor, power-add, power_lt, powers_apart, power_some}
+use Rattle.octets.proofs.Sums.{xor_assoc, crosswise}
+use Rattle.repair.proofs.Laws.{product_comm, product_assoc, product_xor, xor_product, product-zero, zero-product, product_lt, no_factor, power-add, power_lt, powers_apart, power_some}
 
 -- ---- sums
 

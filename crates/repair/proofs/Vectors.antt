@@ -3,11 +3,11 @@
 use mathlib.Core.Path.{◌≡◌, refl, sym, ap, ap₂, ◌∙◌, subst}
 use mathlib.Core.List.{[], ◌∷◌}
 use mathlib.Core.Bool.{Bool, true, false, not}
-use Prim.Native.Nat.{ℕ, ◌+◌, ◌*◌, ◌/◌, ◌%◌, ◌^◌, ◌<◌, ◌≤◌}
+use Prim.Native.Nat.{ℕ, ◌+◌, ◌*◌, ◌^◌, ◌<◌, ◌≤◌}
 use native.Mathlib.Omega.{arith}
 use lib.Dec.{eqb, ltb, leb}
 use lib.Bits.{bit_xor, xor_comm}
-use borrow.Author.Tests.{eq-eqb, eqb-true, eqb-false, ltb-true, leb-true, not-true, le-leb}
+use borrow.Author.Tests.{eq-eqb, eqb-true, ltb-true, leb-true, not-true}
 use Rattle.octets.specs.Basics.{pick, and, or}
 use Rattle.octets.proofs.Choices.{apart, and_true}
 use Rattle.octets.proofs.Every.{below, at, at3}
@@ -18,7 +18,6 @@ use Rattle.repair.specs.Code.{symbol, divided, remainder, four, checks, distance
 use Rattle.repair.specs.Values.{total, value}
 use Rattle.repair.specs.Header.{six_of, header_checks, covered, header_of, header_reading}
 use Rattle.repair.specs.Vectors.{says, beyond_repair, Vectors}
-use Rattle.repair.specs.declared.Repaired.{Repaired}
 use Rattle.repair.proofs.Laws.{swap, power-add}
 use Rattle.repair.proofs.Words.{symbol_lt, apart_count, two_places}
 use Rattle.repair.proofs.Nearest.{right_lt}

@@ -1,21 +1,21 @@
 -- Words and their symbols: sums of words, words with one symbol, and what tells two words apart.
 -- Assumes nothing.
-use mathlib.Core.Path.{◌≡◌, refl, sym, ap, ap₂, ◌∙◌, subst, subst⁻¹, fun_ext}
+use mathlib.Core.Path.{◌≡◌, refl, sym, ap, ap₂, ◌∙◌, subst}
 use mathlib.Core.Logic.{◌⊎◌, inl, inr}
-use mathlib.Core.Bool.{Bool, true, false}
-use Prim.Native.Nat.{ℕ, zero, suc, ◌+◌, ◌-◌, ◌*◌, ◌/◌, ◌%◌, ◌^◌, ◌<◌, ◌≤◌}
-use native.Mathlib.Nat.{mod-lt, mod-eq_of_lt, div-one, mul-suc, add_comm, div-add-mod', pow-suc}
+use mathlib.Core.Bool.{Bool, true}
+use Prim.Native.Nat.{ℕ, zero, suc, ◌+◌, ◌*◌, ◌/◌, ◌%◌, ◌^◌, ◌<◌, ◌≤◌}
+use native.Mathlib.Nat.{div-one, pow-suc}
 use native.Mathlib.Omega.{arith}
-use lib.Dec.{eqb, ltb}
-use lib.Pow.{shr-shr, pow-add}
-use lib.Bits.{bit_xor, xor_shr, xor_mod, xor_self, xor_lt}
+use lib.Dec.{eqb}
+use lib.Pow.{shr-shr}
+use lib.Bits.{bit_xor, xor_shr, xor_mod, xor_self}
 use borrow.Author.Tests.{eqb-true, eqb-false, eq-eqb, ne_eqb}
 use Rattle.octets.specs.Basics.{pick}
 use Rattle.words.specs.Fields.{field}
 use Rattle.octets.proofs.Tests.{test}
 use Rattle.octets.proofs.Choices.{eqb_iff, split}
 use Rattle.repair.specs.Code.{symbol, distance}
-use Rattle.octets.proofs.Every.{below, at, at3}
+use Rattle.octets.proofs.Every.{below, at3}
 use Rattle.octets.proofs.Sums.{xor_apart}
 use Rattle.repair.proofs.Values.{count, count_lt, count_none, find}
 

@@ -1,5 +1,5 @@
 -- What is shown of header error control.
-use Rattle.std.specs.Prelude.{ℕ, ◌+◌, ◌*◌, ◌^◌, ◌≤◌, ◌<◌, ◌≡◌, ◌⊎◌, List, [], ◌∷◌, ◌++◌, Bool, true, length, drop}
+use Rattle.std.specs.Prelude.{ℕ, ◌+◌, ◌*◌, ◌^◌, ◌≤◌, ◌<◌, ◌≡◌, ◌⊎◌, List, [], ◌∷◌, ◌++◌, Bool, length, drop}
 use Rattle.std.specs.Int.Bits.{bit_xor}
 use Rattle.octets.specs.Basics.{AllOctets}
 use Rattle.repair.specs.Field.{power, product}

@@ -1,5 +1,5 @@
 -- Headers with their check symbols, and headers with changed symbols: as they are read, or refused.
-use Rattle.std.specs.Prelude.{ℕ, ◌≡◌, List, [], ◌∷◌, map}
+use Rattle.std.specs.Prelude.{ℕ, ◌≡◌, [], ◌∷◌, map}
 use Rattle.repair.specs.Field.{power}
 use Rattle.repair.specs.Header.{header_checks, header_reading}
 use Rattle.repair.specs.declared.Header.{Header}

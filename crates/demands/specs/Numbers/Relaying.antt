@@ -5,7 +5,7 @@ use Rattle.relay.specs.Route.{Routing, routing, routes}
 use Rattle.relay.specs.declared.Entry.{Entry}
 use Rattle.relay.specs.declared.Table.{Table}
 use Rattle.relay.specs.declared.Routed.{Routed}
-use Rattle.demands.specs.Numbers.Samples.{lent, ten, seven, each}
+use Rattle.demands.specs.Numbers.Samples.{lent, ten, seven}
 
 abbrev pub entry : ℕ → ℕ → Entry
 entry apid destination = record { apid = apid; destination = destination }

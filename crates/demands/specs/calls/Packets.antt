@@ -1,7 +1,6 @@
 -- What the public functions of `packets` promise.
-use Rattle.std.specs.Prelude.{ℕ, ◌≡◌, List, [], ◌∷◌, false, not, length}
+use Rattle.std.specs.Prelude.{ℕ, ◌≡◌, List, [], ◌∷◌, false, not}
 use contract.Lifetimes.{Lfts}
-use denote.Ref.{at_last}
 use Rattle.octets.specs.Basics.{and, row}
 use Rattle.packets.specs.Packet.{limit_in_range, header_length, look, damage_in, carried, is_idle, well_formed}
 use Rattle.packets.specs.Header.{bare, reading, seen}

@@ -4,7 +4,7 @@ use Prim.Native.Nat.{◌/◌, ◌%◌}
 use native.Mathlib.Omega.{arith}
 use borrow.Author.Rules.{rules}
 use Rattle.octets.proofs.Choices.{eqb_iff}
-use Rattle.repair.specs.Code.{checks, written}
+use Rattle.repair.specs.Code.{written}
 use Rattle.repair.proofs.Roots.{checks_lt}
 use Rattle.repair.proofs.is_written.Statement.{statement}
 use Rattle.repair.proofs.is_written.Tie as tie

@@ -1,11 +1,11 @@
 -- `repair::remainder` meets its contract: each turn brings one more symbol down.
 -- Assumes nothing.
-use mathlib.Core.Path.{◌≡◌, refl, sym, ap, ap₂, subst, ◌∙◌}
-use Prim.Native.Nat.{ℕ, suc, ◌+◌, ◌-◌, ◌*◌, ◌/◌, ◌^◌, ◌<◌, ◌≤◌}
+use mathlib.Core.Path.{◌≡◌, sym, ap, ap₂, subst, ◌∙◌}
+use Prim.Native.Nat.{ℕ, suc, ◌-◌, ◌*◌, ◌/◌, ◌^◌, ◌<◌, ◌≤◌}
 use native.Mathlib.Nat.{div-one}
 use native.Mathlib.Omega.{arith}
 use borrow.Author.Rules.{rules}
-use Rattle.repair.specs.Code.{symbol, remainder, four}
+use Rattle.repair.specs.Code.{remainder, four}
 use Rattle.repair.specs.Values.{brought_down}
 use Rattle.repair.proofs.Roots.{small, four_lt}
 use Rattle.repair.proofs.Words.{symbol_lt}

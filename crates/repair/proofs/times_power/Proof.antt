@@ -1,6 +1,5 @@
 -- `repair::times_power` meets its contract: the sum of its digits, each times that power.
 -- Assumes nothing.
-use mathlib.Core.Path.{◌∙◌}
 use Rattle.repair.proofs.Table.{by_digits}
 use borrow.Author.Rules.{rules}
 use Rattle.repair.proofs.times_power.Statement.{statement}

@@ -5,7 +5,6 @@ use Prim.Native.Nat.{ℕ}
 use borrow.Author.Tests.{not-true, not-false}
 use lib.ListN.{take}
 use Rattle.extractor.specs.Extract.{in_step, reason_in}
-use Rattle.extractor.specs.Records.{is_in_step}
 use Rattle.extractor.specs.Walks.{Says}
 use Rattle.extractor.proofs.Unrefused.{arrives, arriving_walks}
 use Rattle.extractor.proofs.Arrivals.{lost_reason, astray_reason, held_reason}
