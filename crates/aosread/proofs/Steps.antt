@@ -1,23 +1,25 @@
 -- The steps of a frame come to an end, whatever record they set out from.
 -- Assumes nothing.
-use mathlib.Core.Path.{◌≡◌, refl, subst}
+use mathlib.Core.Path.{◌≡◌, refl, sym, ap, subst⁻¹, ◌∙◌}
 use mathlib.Core.List.{List}
-use mathlib.Core.Bool.{true, false}
+use mathlib.Core.Bool.{Bool, true, false}
 use Prim.Native.Nat.{ℕ, ◌+◌, ◌-◌, ◌<◌}
 use native.Mathlib.Omega.{arith}
-use lib.Dec.{eqb}
+use lib.Dec.{eqb, leb}
 use borrow.Author.Tests.{eqb-true}
-use Rattle.octets.specs.Basics.{first}
+use Rattle.std.specs.Prelude.{Ok}
+use Rattle.octets.specs.Basics.{and, first}
 use Rattle.octets.proofs.Choices.{apart}
 use Rattle.octets.proofs.Tests.{test}
 use Rattle.frames.specs.declared.Settings.{Settings}
 use Rattle.extractor.specs.Records.{step_rows, step_call, Stepped}
-use Rattle.extractor.specs.Answers.{step_says, step_answer}
+use Rattle.extractor.specs.Answers.{StepSaid, found_numbers, as_found, step_says, step_answer}
 use Rattle.extractor.specs.Calls.{goes_on}
 use Rattle.extractor.specs.declared.Extractor.{Extractor}
 use Rattle.extractor.specs.declared.Extractor.TheVariants.{Fresh, Astray, InStep, Walking, Leaving}
+use Rattle.extractor.specs.Found.{Found, Refused, InFrame, InStore, Damaged, Spent}
+use Rattle.extractor.specs.declared.Found as declared
 use Rattle.extractor.specs.declared.Move.{Move}
-use Rattle.extractor.proofs.Determined.{step_determined}
 use Rattle.extractor.proofs.Turns.{Turn, leave, keep, break, give, turn}
 use Rattle.extractor.proofs.Unrefused.{moves}
 
@@ -37,6 +39,26 @@ turn_less s f store (keep begun fits) on = apart (cc)
 turn_less s f store (break e h) on = omega arith
 turn_less s f store (give p e fits seen rest later inside same beyond) on = omega arith
 
+-- whether an answer is of a packet or of damage, by the number of its outcome
+abbrev finds : ℕ → Bool
+finds outcome = and (leb 1 outcome) (leb outcome 3)
+
+goes_on_told : (f store : List ℕ) (a : Found) → goes_on a ≡ finds (found_numbers f store a).outcome
+unfolding found_numbers
+goes_on_told f store (Refused n) = refl
+goes_on_told f store (InFrame start size true) = refl
+goes_on_told f store (InFrame start size false) = refl
+goes_on_told f store (InStore size true) = refl
+goes_on_told f store (InStore size false) = refl
+goes_on_told f store (Damaged d) = refl
+goes_on_told f store Spent = refl
+
+found_goes_on : (a : declared.Found) → (a ≡ declared.Found.Spent → ⊥) → goes_on (as_found a) ≡ true
+found_goes_on (declared.Found.InFrame start size idle) more = refl
+found_goes_on (declared.Found.InStore size idle) more = refl
+found_goes_on (declared.Found.Damaged d) more = refl
+found_goes_on declared.Found.Spent more = absurd (more refl)
+
 module _ (s : Settings) (x : Extractor) (store f : List ℕ) where
   call_less : goes_on (step_call s x store f).found ≡ true → left s (step_call s x store f).next < left s x
   unfolding step_call
@@ -46,11 +68,12 @@ module _ (s : Settings) (x : Extractor) (store f : List ℕ) where
       rw t (turn_less s f store (turn s f store m.ranged m.framed m.room x m.reached m.underway) (rw t at on)))
       (λ t. let off : false ≡ true = rw t at on in apart (cc))
 
-  -- a step that goes on leaves fewer
-  pub step_less : (m : Move) (st : List ℕ) → step_says m f st ≡ step_answer s x store f → goes_on m.found ≡ true
+  -- a step that does not find the frame spent leaves fewer
+  pub step_less : (m : Move) (st : List ℕ) → step_says x (Ok m) f st ≡ step_answer s x store f → (m.found ≡ declared.Found.Spent → ⊥)
       → left s m.next < left s x
   unfolding step_answer
-  step_less m st told on =
+  step_less m st told more =
       let w : Stepped = step_call s x store f in
-      let same : record { found = w.found; next = w.next } ≡ m = (step_determined f {p = w.store} refl told).0 in
-      subst (λ (n : Move). goes_on n.found ≡ true → left s n.next < left s x) same call_less on
+      let going : goes_on w.found ≡ true =
+      goes_on_told f w.store w.found ∙ sym (ap (λ (n : StepSaid). finds n.answer.outcome) told) ∙ sym (goes_on_told f st (as_found m.found)) ∙ found_goes_on m.found more in
+      subst⁻¹ (λ (y : Extractor). left s y < left s x) (ap (λ (n : StepSaid). n.next) told) (call_less going)

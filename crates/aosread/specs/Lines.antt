@@ -1,21 +1,19 @@
 -- The lines of the output.
-use Rattle.std.specs.Prelude.{ℕ, zero, suc, ◌+◌, ◌/◌, ◌%◌, ◌≤◌, ◌≡◌, List, [], ◌∷◌, ◌++◌, true, false, length, ltb}
+use Rattle.std.specs.Prelude.{ℕ, zero, suc, ◌+◌, ◌/◌, ◌%◌, ◌≤◌, List, [], ◌∷◌, ◌++◌, true, false, Result, Ok, Err, length, leb, ltb}
 use Prim.Native.Char.{code}
 use Prim.Native.String.{String, [] as no_more, ◌∷◌ as ◌then◌}
-use Rattle.octets.specs.Basics.{pick, over}
+use Rattle.octets.specs.Basics.{pick}
+use Rattle.octets.specs.Refusals.{number_of}
+use Rattle.octets.specs.declared.refusals.Refusal.{Refusal}
+use Rattle.packets.specs.Damage.{damage_number}
 use Rattle.packets.specs.declared.Kind.TheVariants.{Space, Encapsulation}
 use Rattle.packets.specs.declared.Header.{Header}
-use Rattle.packets.specs.declared.Header.TheVariants.{Whole}
-use Rattle.packets.specs.declared.Header.TheVariants as header
 use Rattle.frames.specs.declared.Settings.{Settings}
+use Rattle.extractor.specs.Answers.{reason_number}
+use Rattle.extractor.specs.declared.Entry.{Entry}
+use Rattle.extractor.specs.declared.Entering.{Entering}
 use Rattle.extractor.specs.declared.Found.{Found}
-use Rattle.extractor.specs.declared.Found.TheVariants.{Refused, InFrame, InStore, Damaged, Spent}
-use Rattle.extractor.specs.declared.Entered.{Entered}
-use Rattle.extractor.specs.declared.Entered.TheVariants.{Taken}
-use Rattle.extractor.specs.declared.Entered.TheVariants as entered
-use Rattle.judge.specs.declared.Closed.{Closed}
-use Rattle.judge.specs.declared.Closed.TheVariants.{Pass, Fault}
-use Rattle.judge.specs.declared.Closed.TheVariants as closed
+use Rattle.judge.specs.declared.Verdict.{Verdict}
 
 -- a text's octets
 abbrev pub ascii : String → List ℕ
@@ -47,40 +45,43 @@ setup_line s =
     named (ascii "setup ") s.link.spacecraft
     ++ (named (ascii " ") s.link.channel ++ two (ascii " zone ") s.zone (ascii " limit ") s.limit)
 
-unfoldable pub entered_line : Entered → List ℕ
-entered_line (entered.Refused refusal) = last (ascii "refused ") refusal
-entered_line (Taken e) =
+-- of a frame that is entered
+unfoldable pub taken_line : Entry → List ℕ
+taken_line e =
     named (ascii "frame ") e.count
-    ++ (named (ascii " lost ") e.lost ++ two (ascii " dropped ") e.dropped (ascii " reason ") e.reason)
+    ++ (named (ascii " lost ") e.lost ++ two (ascii " dropped ") e.dropped (ascii " reason ") (reason_number e.reason))
+
+-- of what entering a frame answers
+unfoldable pub entered_line : Result Entering Refusal → List ℕ
+entered_line (Err refusal) = last (ascii "refused ") (number_of refusal)
+entered_line (Ok entering) = taken_line entering.entry
 
 -- of a packet, by what its header tells
-unfoldable pub packet_line : Header → List ℕ
-packet_line (Whole kind key true size total) = last (ascii "idle ") total
-packet_line (Whole Space key false size total) = two (ascii "space ") key (ascii " ") total
-packet_line (Whole Encapsulation key false size total) = two (ascii "encap ") key (ascii " ") total
-packet_line (header.Refused refusal) = []
-packet_line header.More = []
-packet_line (header.Damaged damage) = []
+unfoldable pub packet_line : Result Header Refusal → List ℕ
+packet_line (Ok (Header.Whole kind key true size total)) = last (ascii "idle ") total
+packet_line (Ok (Header.Whole Space key false size total)) = two (ascii "space ") key (ascii " ") total
+packet_line (Ok (Header.Whole Encapsulation key false size total)) = two (ascii "encap ") key (ascii " ") total
+packet_line (Ok Header.More) = []
+packet_line (Ok (Header.Damaged damage)) = []
+packet_line (Err refusal) = []
 
 -- of what a step found: damage, or a packet
-unfoldable pub step_line : Found → Header → List ℕ
-step_line (Refused refusal) h = packet_line h
-step_line (InFrame start size idle) h = packet_line h
-step_line (InStore size idle) h = packet_line h
-step_line (Damaged damage) h = last (ascii "damaged ") damage
-step_line Spent h = packet_line h
+unfoldable pub step_line : Found → Result Header Refusal → List ℕ
+step_line (Found.InFrame start size idle) header = packet_line header
+step_line (Found.InStore size idle) header = packet_line header
+step_line (Found.Damaged damage) header = last (ascii "damaged ") (damage_number damage)
+step_line Found.Spent header = packet_line header
 
-unfoldable pub verdict_line : Closed → List ℕ
-verdict_line Pass = ascii "pass\n"
-verdict_line (Fault at) = last (ascii "fault ") at
-verdict_line (closed.Refused refusal) = []
+-- of the verdict
+unfoldable pub verdict_line : Result Verdict Refusal → List ℕ
+verdict_line (Ok Verdict.Pass) = ascii "pass\n"
+verdict_line (Ok (Verdict.Fault at)) = last (ascii "fault ") at
+verdict_line (Err refusal) = []
 
--- a text is put into a buffer from a place on, and where it ends
-pub record Puts (before : List ℕ) (at : ℕ) (text after : List ℕ) (end : ℕ) : Type 0 where
-  pub fits : at + length text ≤ length before
-  pub written : after ≡ over before at text
-  pub ends : end ≡ at + length text
+-- so much text may wait that a line, which has 128 octets at most, has room behind it
+abbrev pub Room : List ℕ → Type 0
+Room text = length text + 128 ≤ 65536
 
--- no line is longer than 128 octets: there is room for one
-abbrev pub Room : ℕ → List ℕ → Type 0
-Room at out = at + 128 ≤ length out
+-- the text that waits once a line is printed: the line behind the others, or nothing, as all is written where no other has room behind it
+abbrev pub printed : List ℕ → List ℕ → List ℕ
+printed text line = pick (leb (length (text ++ line) + 128) 65536) (text ++ line) []

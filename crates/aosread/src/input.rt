@@ -1,50 +1,44 @@
 // Standard input: the records of a run, out of a buffer that large reads fill.
-ghost use Rattle.std.specs.Prelude.{◌≡◌, ◌+◌, ◌≤◌, length, take, drop};
-ghost use Rattle.aosread.specs.Input.{Inside, unread as unread_in, StandFirst, Follows};
+ghost use Rattle.std.specs.Prelude.{◌≡◌, ◌≤◌, [], length};
+ghost use Rattle.aosread.specs.Input.{StandFirst, Follows};
 
 use runfile::Progress;
-use std::io;
 use std::io::Read;
+use std::marker::Model;
 
-// The octets of the buffer that are read and not yet taken.
-#[derive(Clone, Copy)]
-pub(crate) struct Unread {
-    pub(crate) from: usize,
-    pub(crate) to: usize,
+// The octets that the buffer holds.
+const BUFFER: usize = 65536;
+
+// A clause sees the body of the last record, and the octets that are read and not yet taken.
+#[derive(Drop)]
+pub(crate) struct Reader<'a, R> {
+    rt: &'a R,
+    octets: [u8; BUFFER],
+    // Where the last record's body begins.
+    body: usize,
+    // Where it ends, and those that are not yet taken begin.
+    from: usize,
+    // Where these end.
+    to: usize,
 }
 
-// A record, or that the input has ended.
-#[derive(Clone, Copy)]
-pub(crate) struct Record {
-    pub(crate) ended: bool,
-    pub(crate) kind: u8,
-    // Where its body lies in the buffer, as much of it as there is.
-    pub(crate) from: usize,
-    pub(crate) to: usize,
-    // What is left behind it.
-    pub(crate) unread: Unread,
-    // How far the run is read after it.
-    pub(crate) progress: Progress,
+impl<'a, R> Model for Reader<'a, R> {
+    ghost use Rattle.std.specs.Prelude.{◌≤◌, slice_range};
+    ghost use Rattle.aosread.specs.Held.{Held};
+
+    ghost Value = { Held };
+
+    ghost view = { λ r. record { body = slice_range r.octets r.body r.from; unread = slice_range r.octets r.from r.to } };
+
+    ghost invariant = { λ r. (r.body ≤ r.from) × (r.from ≤ r.to) × (r.to ≤ 65536) };
 }
 
-// Moves n octets of the buffer, from `from` on, to its front.
-fn to_front(buf: &mut [u8], from: usize, n: usize)
-    requires { from + n ≤ length buf.old }
-    ensures { take n buf.new ≡ take n (drop from buf.old) }
+// One read: how many octets of the part came, 0 where the input has ended or, as standard error says, cannot be read.
+fn read(rt: &(impl Input + Eprint), part: &mut [u8]) -> usize
+    ensures { result ≤ length part.new }
 {
-    let mut i = 0;
-    while i < n {
-        buf[i] = buf[from + i];
-        i += 1;
-    }
-}
-
-// How many octets of a part a read has filled; standard error says so where it could not read.
-fn received(rt: &impl Eprint, got: io::Result<usize>, part: &[u8]) -> usize
-    ensures { result ≤ length part.now }
-{
-    match got {
-        Ok(n) => octets::least(n, part.len()),
+    match rt.reader().read(part) {
+        Ok(n) => n,
         Err(_) => {
             let _ = rt.eprintln("aosread: standard input cannot be read");
             0
@@ -52,75 +46,60 @@ fn received(rt: &impl Eprint, got: io::Result<usize>, part: &[u8]) -> usize
     }
 }
 
-// One read behind the buffer's first `to` octets: how many came, 0 where the input has ended or cannot be read.
-fn read_behind(rt: &(impl Input + Eprint), buf: &mut [u8], to: usize) -> usize
-    requires { to ≤ length buf.old }
-    ensures result_in_bounds { to + result ≤ length buf.new }
-    ensures buf_unchanged { take to buf.new ≡ take to buf.old }
-{
-    let rest = &mut buf[to..];
-    let got = rt.reader().read(rest);
-    received(rt, got, rest)
-}
-
-// Reads on until n octets are there or the input has ended.
-fn wait_for(rt: &(impl Input + Eprint), buf: &mut [u8], unread: Unread, n: usize) -> Unread
-    requires { Inside unread buf.old }
-    ensures inside { Inside result buf.new }
-    ensures stand_first { StandFirst unread buf.old (unread_in result buf.new) }
-{
-    let from = unread.from;
-    let there = unread.to - from;
-    if n <= there {
-        return unread;
-    }
-    to_front(buf, from, there);
-    let mut to = there;
-    while to < n {
-        let got = read_behind(rt, buf, to);
-        if got == 0 {
-            return Unread { from: 0, to };
+impl<'a, R: Input + Eprint> Reader<'a, R> {
+    // Nothing is read yet.
+    pub(crate) fn new(rt: &'a R) -> Self
+        ensures { result ≡ record { body = []; unread = [] } }
+    {
+        Reader {
+            rt,
+            octets: [0; BUFFER],
+            body: 0,
+            from: 0,
+            to: 0,
         }
-        to += got;
     }
-    Unread { from: 0, to }
-}
 
-// The next record.
-pub(crate) fn next(
-    rt: &(impl Input + Eprint),
-    buf: &mut [u8],
-    unread: Unread,
-    progress: Progress,
-) -> Record
-    requires { Inside unread buf.old }
-    ensures { Follows progress result unread buf.old buf.new }
-{
-    let start = wait_for(rt, buf, unread, 1);
-    let at = start.from;
-    if start.to == at {
-        return Record {
-            ended: true,
-            kind: 0,
-            from: at,
-            to: at,
-            unread: start,
-            progress: runfile::close(progress),
-        };
+    // The body of the last record, as much of it as there is.
+    pub(crate) fn body(&self) -> &[u8]
+        ensures { result.now ≡ self.now.body }
+    {
+        &self.octets[self.body..self.from]
     }
-    let kind = buf[at];
-    let size = runfile::body_length(progress, kind);
-    let whole = wait_for(rt, buf, start, 1 + size);
-    let from = whole.from + 1;
-    let end = whole.to;
-    let to = octets::least(from + size, end);
-    let progress = runfile::take(progress, kind, &buf[from..to]);
-    Record {
-        ended: false,
-        kind,
-        from,
-        to,
-        unread: Unread { from: to, to: end },
-        progress,
+
+    // Reads on until n octets are there that are not yet taken, or the input has ended.
+    fn wait_for(&mut self, n: usize)
+        ensures { StandFirst self.old.unread self.new.unread }
+    {
+        if n <= self.to - self.from {
+            return;
+        }
+        self.octets.copy_within(self.from..self.to, 0);
+        self.to -= self.from;
+        self.from = 0;
+        self.body = 0;
+        while self.to < n {
+            let got = read(self.rt, &mut self.octets[self.to..]);
+            if got == 0 {
+                return;
+            }
+            self.to += got;
+        }
+    }
+
+    // How far the run is read after the next record, whose body is held then; none where the input has ended.
+    pub(crate) fn next(&mut self, progress: Progress) -> Option<Progress>
+        ensures { Follows progress result self.old.unread self.new }
+    {
+        self.wait_for(1);
+        if self.from == self.to {
+            return None;
+        }
+        let kind = self.octets[self.from];
+        let size = runfile::body_length(progress, kind);
+        self.wait_for(1 + size);
+        self.body = self.from + 1;
+        self.from = self.to.min(self.body + size);
+        Some(runfile::take(progress, kind, &self.octets[self.body..self.from]))
     }
 }

@@ -1,160 +1,127 @@
-// The lines of the output, each put into a buffer behind the octets that wait there.
-ghost use Rattle.std.specs.Prelude.{◌≡◌, ◌+◌, ◌≤◌, length, drop};
-ghost use Rattle.aosread.specs.Lines.{ascii, decimal as digits_of, named as named_text, last as last_text, two as two_text, setup_line, entered_line, packet_line, step_line, verdict_line, Puts, Room};
+// The lines of the output.
+#![tactic(auto, unfolding(crate::specs::Lines::setup_line, crate::specs::Lines::taken_line, crate::specs::Lines::entered_line, crate::specs::Lines::packet_line, crate::specs::Lines::step_line, crate::specs::Lines::verdict_line))]
 
-use extractor::{Entered, Found};
+ghost use Rattle.std.specs.Prelude.{◌≡◌, ◌+◌, ◌≤◌, length};
+ghost use Rattle.aosread.specs.Lines.{ascii, last as last_text, two as two_text, setup_line, taken_line, entered_line, packet_line, step_line, verdict_line};
+
+use crate::text::Text;
+use extractor::{Entering, Entry, Found};
 use frames::Settings;
-use judge::Closed;
+use judge::Verdict;
+use octets::Refusal;
 use packets::{Header, Kind};
 
 // No line is longer.
 pub(crate) const MOST_LINE: usize = 128;
 
-fn put(out: &mut [u8], at: usize, text: &[u8]) -> usize
-    requires { at + length text.now ≤ length out.old }
-    ensures { Puts out.old at text.now out.new result }
+pub(crate) type Line = Text<MOST_LINE>;
+
+// A line of one number.
+fn one(name: &[u8], n: u64) -> Line
+    requires { length name.now ≤ 20 }
+    ensures { result ≡ last_text name.now n }
 {
-    octets::lay(out, at, text, 0, text.len());
-    at + text.len()
+    let mut line = Line::new();
+    line.last(name, n);
+    line
 }
 
-// The decimal digits of a number, put at the end of twenty octets; where they begin.
-fn decimal(n: u64, digits: &mut [u8; 20]) -> usize
-    ensures in_bounds { result ≤ 20 }
-    ensures digits { drop result digits.new ≡ digits_of n }
+// A line of two numbers.
+fn two(first: &[u8], a: u64, second: &[u8], b: u64) -> Line
+    requires { length first.now + length second.now ≤ 20 }
+    ensures { result ≡ two_text first.now a second.now b }
 {
-    let mut from = 19;
-    let mut rest = n;
-    while rest >= 10 {
-        digits[from] = b'0' + (rest % 10) as u8;
-        rest /= 10;
-        from -= 1;
-    }
-    digits[from] = b'0' + rest as u8;
-    from
+    let mut line = Line::new();
+    line.two(first, a, second, b);
+    line
 }
 
-// A number's decimal digits behind its name.
-fn named(out: &mut [u8], at: usize, name: &[u8], n: u64) -> usize
-    requires { at + (length name.now + 20) ≤ length out.old }
-    ensures puts { Puts out.old at (named_text name.now n) out.new result }
-    ensures upper_bound { result ≤ at + (length name.now + 20) }
+// The settings of the run.
+pub(crate) fn setup(s: Settings) -> Line
+    ensures { result ≡ setup_line s }
 {
-    let mut digits = [0u8; 20];
-    let from = decimal(n, &mut digits);
-    let at = put(out, at, name);
-    put(out, at, &digits[from..])
+    let mut line = Line::new();
+    line.named(b"setup ", s.link.spacecraft as u64);
+    line.named(b" ", s.link.channel as u64);
+    line.two(b" zone ", s.zone as u64, b" limit ", s.limit as u64);
+    line
 }
 
-// The same at the end of a line.
-fn last(out: &mut [u8], at: usize, name: &[u8], n: u64) -> usize
-    requires { at + (length name.now + 21) ≤ length out.old }
-    ensures { Puts out.old at (last_text name.now n) out.new result }
+// A frame that is entered, with what was lost and dropped before it.
+fn taken(e: Entry) -> Line
+    ensures { result ≡ taken_line e }
 {
-    let at = named(out, at, name, n);
-    put(out, at, b"\n")
+    let reason = e.reason.map_or(0, |reason| reason.number());
+    let mut line = Line::new();
+    line.named(b"frame ", e.count as u64);
+    line.named(b" lost ", e.lost as u64);
+    line.two(b" dropped ", e.dropped as u64, b" reason ", reason as u64);
+    line
 }
 
-// Two numbers, the second at the end of a line.
-fn two(out: &mut [u8], at: usize, first: &[u8], a: u64, second: &[u8], b: u64) -> usize
-    requires { at + (length first.now + (length second.now + 41)) ≤ length out.old }
-    ensures { Puts out.old at (two_text first.now a second.now b) out.new result }
+// What entering a frame answers.
+pub(crate) fn entered(answer: Result<Entering, Refusal>) -> Line
+    ensures { result ≡ entered_line answer }
 {
-    let at = named(out, at, first, a);
-    last(out, at, second, b)
-}
-
-pub(crate) fn setup(out: &mut [u8], at: usize, s: Settings) -> usize
-    requires { Room at out.old }
-    ensures { Puts out.old at (setup_line s) out.new result }
-{
-    let link = s.link;
-    let at = named(out, at, b"setup ", link.spacecraft as u64);
-    let at = named(out, at, b" ", link.channel as u64);
-    two(
-        out,
-        at,
-        b" zone ",
-        s.zone as u64,
-        b" limit ",
-        s.limit as u64,
-    )
-}
-
-pub(crate) fn entered(out: &mut [u8], at: usize, e: Entered) -> usize
-    requires { Room at out.old }
-    ensures { Puts out.old at (entered_line e) out.new result }
-{
-    match e {
-        Entered::Refused { refusal } => last(out, at, b"refused ", refusal as u64),
-        Entered::Taken { entry } => {
-            let at = named(out, at, b"frame ", entry.count as u64);
-            let at = named(out, at, b" lost ", entry.lost as u64);
-            let dropped = entry.dropped as u64;
-            two(
-                out,
-                at,
-                b" dropped ",
-                dropped,
-                b" reason ",
-                entry.reason as u64,
-            )
-        }
+    match answer {
+        Ok(entering) => taken(entering.entry),
+        Err(refusal) => one(b"refused ", refusal.number() as u64),
     }
 }
 
-// A packet, by what its header tells.
-fn packet(out: &mut [u8], at: usize, h: Header) -> usize
-    requires { Room at out.old }
-    ensures { Puts out.old at (packet_line h) out.new result }
+// A packet, by what its header tells; nothing where it tells of no packet.
+fn packet(header: Result<Header, Refusal>) -> Line
+    ensures { result ≡ packet_line header }
 {
-    match h {
+    let Ok(
         Header::Whole {
             kind,
             key,
             idle,
             total,
             ..
-        } => {
-            if idle {
-                return last(out, at, b"idle ", total as u64);
-            }
-            match kind {
-                Kind::Space => two(out, at, b"space ", key as u64, b" ", total as u64),
-                Kind::Encapsulation => two(out, at, b"encap ", key as u64, b" ", total as u64),
-            }
-        }
-        Header::Refused { .. } => at,
-        Header::More => at,
-        Header::Damaged { .. } => at,
+        },
+    ) = header
+    else {
+        return Line::new();
+    };
+    if idle {
+        return one(b"idle ", total as u64);
+    }
+    match kind {
+        Kind::Space => two(b"space ", key as u64, b" ", total as u64),
+        Kind::Encapsulation => two(b"encap ", key as u64, b" ", total as u64),
     }
 }
 
 // What a step found: damage, or a packet by what its header tells.
-pub(crate) fn step(out: &mut [u8], at: usize, found: Found, h: Header) -> usize
-    requires { Room at out.old }
-    ensures { Puts out.old at (step_line found h) out.new result }
+pub(crate) fn step(found: Found, header: Result<Header, Refusal>) -> Line
+    ensures { result ≡ step_line found header }
 {
-    if let Found::Damaged { damage } = found {
-        return last(out, at, b"damaged ", damage as u64);
-    }
-    packet(out, at, h)
-}
-
-pub(crate) fn verdict(out: &mut [u8], at: usize, c: Closed) -> usize
-    requires { Room at out.old }
-    ensures { Puts out.old at (verdict_line c) out.new result }
-{
-    match c {
-        Closed::Pass => put(out, at, b"pass\n"),
-        Closed::Fault { at: frame } => last(out, at, b"fault ", frame as u64),
-        Closed::Refused { .. } => at,
+    match found {
+        Found::Damaged(damage) => one(b"damaged ", damage.number() as u64),
+        _ => packet(header),
     }
 }
 
-pub(crate) fn bad_record(out: &mut [u8], at: usize, n: u64) -> usize
-    requires { Room at out.old }
-    ensures { Puts out.old at (last_text (ascii "bad record ") n) out.new result }
+// The verdict; nothing where the judge refuses.
+pub(crate) fn verdict(answer: Result<Verdict, Refusal>) -> Line
+    ensures { result ≡ verdict_line answer }
 {
-    last(out, at, b"bad record ", n)
+    match answer {
+        Ok(Verdict::Pass) => {
+            let mut line = Line::new();
+            line.put(b"pass\n");
+            line
+        }
+        Ok(Verdict::Fault { at }) => one(b"fault ", at as u64),
+        Err(_) => Line::new(),
+    }
+}
+
+// The number of the record that is bad.
+pub(crate) fn bad_record(n: u64) -> Line
+    ensures { result ≡ last_text (ascii "bad record ") n }
+{
+    one(b"bad record ", n)
 }

@@ -1,11 +1,11 @@
 // Numbers in lent arrays, as the calls for C have their settings, records and answers.
 #![tactic(auto)]
 
-ghost use Rattle.std.specs.Prelude.{◌≡◌, ◌≤◌, length, get_or};
-ghost use Rattle.octets.specs.Basics.{over, fits, Lays};
+ghost use Rattle.std.specs.Prelude.{◌≡◌, length, get_or};
+ghost use Rattle.octets.specs.Basics.{fits, Lays};
 ghost use Rattle.arrays.specs.Arrays.{told, kept, handed_on, bit, octet_of, count_of};
 
-use octets::refusals;
+use octets::Refusal;
 
 // The greatest octet, and the greatest number of 32 bits.
 const MOST_OCTET: u8 = 255;
@@ -23,50 +23,31 @@ pub fn flag(yes: bool) -> u64
 pub fn octet_of(number: u64) -> u8
     ensures { result ≡ octet_of number }
 {
-    if number < MOST_OCTET as u64 {
-        number as u8
-    } else {
-        MOST_OCTET
-    }
+    u8::try_from(number).unwrap_or(MOST_OCTET)
 }
 
 pub fn count_of(number: u64) -> u32
     ensures { result ≡ count_of number }
 {
-    if number < MOST_COUNT as u64 {
-        number as u32
-    } else {
-        MOST_COUNT
-    }
+    u32::try_from(number).unwrap_or(MOST_COUNT)
 }
 
 // The number at `at`; 0 past the end.
 pub fn entry(numbers: &[u64], at: usize) -> u64
     ensures { result ≡ get_or numbers.now at 0 }
 {
-    if at < numbers.len() { numbers[at] } else { 0 }
+    numbers.get(at).copied().unwrap_or(0)
 }
 
-// Writes numbers over the front of an array that has room for them.
-fn copy(array: &mut [u64], numbers: &[u64])
-    requires { length numbers.now ≤ length array.old }
-    ensures { array.new ≡ over array.old 0 numbers.now }
-{
-    let mut i = 0;
-    while i < numbers.len() {
-        array[i] = numbers[i];
-        i += 1;
-    }
-}
-
-// The same, and answers 0; or nothing, and answers 2, where they do not fit.
+// Writes numbers over the front of an array, and answers 0; or nothing, and answers 2, where they do not fit.
 pub fn put(array: &mut [u64], numbers: &[u64]) -> u64
     ensures { Lays (fits array.old 0 (length numbers.now)) (told array.old numbers.now) result array.new }
 {
-    if array.len() < numbers.len() {
-        return refusals::ROOM as u64;
+    let room = numbers.len();
+    if array.len() < room {
+        return Refusal::Room.number() as u64;
     }
-    copy(array, numbers);
+    array[..room].copy_from_slice(numbers);
     0
 }
 

@@ -9,10 +9,9 @@ use borrow.Author.Tests.{ne_eqb}
 use Rattle.octets.specs.Basics.{first}
 use Rattle.octets.proofs.Choices.{refusal_kept}
 use Rattle.frames.specs.declared.bits.BitSettings.{BitSettings}
-use Rattle.bitstream.specs.Bitstream.{write_rows, Wrote, wrote, written, read_rows, reading}
+use Rattle.bitstream.specs.Bitstream.{write_rows, Wrote, wrote, written, read_rows, Reading, reading}
 use Rattle.bitstream.specs.declared.Writer.{Writer}
 use Rattle.bitstream.specs.declared.Reader.{Reader}
-use Rattle.bitstream.specs.declared.Reading.{Reading}
 
 module _ (s : BitSettings) (w : Writer) (n : ℕ) (bits d : List ℕ) where
   pub write_refusal : (written s w bits n d).said.refusal ≡ first (write_rows s w n (length bits) (length d))

@@ -1,4 +1,5 @@
 pub mod Answers
+pub mod Determined
 pub mod Sizes
 pub mod Bits
 pub mod Zones

@@ -2,16 +2,15 @@
 -- Assumes nothing.
 use mathlib.Core.Path.{◌≡◌, refl, ap, ◌∙◌}
 use mathlib.Core.List.{List}
-use mathlib.Core.Bool.{true, not}
+use mathlib.Core.Bool.{true}
 use Prim.Native.Nat.{ℕ}
 use borrow.Author.Tests.{not-false}
-use Rattle.octets.specs.Basics.{pick, first}
+use Rattle.octets.specs.Basics.{first}
 use Rattle.octets.proofs.Choices.{none_holds}
 use Rattle.frames.specs.Frame.{heading_of}
 use Rattle.frames.specs.BitFrame.{bits_in_range, bit_frame_rows, bit_heading_rows, bit_heading}
 use Rattle.frames.specs.declared.bits.BitSettings.{BitSettings}
-use Rattle.frames.specs.declared.Heading.{Heading}
-use Rattle.frames.proofs.Rows.{settled_once}
+use Rattle.frames.specs.Shape.{Heading}
 use Rattle.bitstream.specs.Bitstream.{valid_bits, reader_reachable, read_rows, loss_flag, next_reader, reading}
 use Rattle.bitstream.specs.declared.Reader.{Reader}
 use Rattle.octets.proofs.Choices.{refusal_kept}
@@ -30,14 +29,12 @@ readable s x f e =
     record { in_range = not-false _ one.0; reached = not-false _ ten.0; sound = ten.1 }
 
 module _ (s : BitSettings) (x : Reader) (f : List ℕ) where
-  -- the refusal, with the header's taken from its heading
-  pub refusal_by : (h : Heading) → h ≡ bit_heading s f
-      → pick (not (bits_in_range s)) 1 (pick (not (reader_reachable s x)) 10 h.refusal) ≡ first (read_rows s x f)
+  -- settings in range and a record that passes leave the refusal to the header
+  pub head_refusal : (h : Heading) → h ≡ bit_heading s f → bits_in_range s ≡ true → reader_reachable s x ≡ true → h.refusal ≡ first (read_rows s x f)
   unfolding read_rows bit_heading bit_heading_rows heading_of first
-  refusal_by h e =
-      ap (λ (k : ℕ). pick (not (bits_in_range s)) 1 (pick (not (reader_reachable s x)) 10 k))
-      (ap (λ (g : Heading). g.refusal) e ∙ refusal_kept (λ (g : Heading). g.refusal) (first (bit_heading_rows s f)) _ _ refl refl)
-      ∙ settled_once (bits_in_range s) (bit_frame_rows s f) (pick (not (reader_reachable s x)) 10)
+  head_refusal h e fit reached =
+      rw (reached, fit)
+      (rw fit at (ap (λ (g : Heading). g.refusal) e ∙ refusal_kept (λ (g : Heading). g.refusal) (first (bit_heading_rows s f)) _ _ refl refl))
 
   pub read_done : (h : Heading) → h ≡ bit_heading s f → first (read_rows s x f) ≡ 0
       → record { refusal = 0; count = h.count; replay = h.replay; bits = valid_bits s h.pointer; lost = loss_flag s x h.count (valid_bits s h.pointer); reader = next_reader s x h.count (valid_bits s h.pointer) }

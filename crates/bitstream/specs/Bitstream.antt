@@ -1,6 +1,8 @@
 -- The bitstream channel's written rules: n bits written into a frame, and the bits of a frame read.
-use Rattle.std.specs.Prelude.{ℕ, ◌+◌, ◌-◌, ◌/◌, ◌%◌, ◌^◌, ◌≤◌, List, [], ◌∷◌, ◌++◌, Bool, true, false, not, length, take, get_or, replicate, leb, ltb, eqb}
+use Rattle.std.specs.Prelude.{ℕ, ◌+◌, ◌-◌, ◌/◌, ◌%◌, ◌^◌, ◌≤◌, List, [], ◌∷◌, ◌++◌, Bool, true, false, Result, Ok, Err, not, length, take, get_or, replicate, leb, ltb, eqb}
 use Rattle.octets.specs.Basics.{pick, and, or, over, Row, row, first}
+use Rattle.octets.specs.Refusals.{number_of}
+use Rattle.octets.specs.declared.refusals.Refusal.{Refusal}
 use Rattle.words.specs.Fields.{read, write}
 use Rattle.words.specs.declared.Place.{Place}
 use Rattle.trailer.specs.Trailer.{sent}
@@ -8,10 +10,9 @@ use Rattle.frames.specs.Link.{count_width, next_count}
 use Rattle.frames.specs.BitFrame.{bits_in_range, bit_frame_length, bit_frame_rows, bit_zone_of, bit_count, bit_replay, bit_pointer, bit_head, most_bits, fill_only, all_valid}
 use Rattle.frames.specs.declared.bits.BitSettings.{BitSettings}
 use Rattle.bitstream.specs.declared.Writer.{Writer}
-use Rattle.bitstream.specs.declared.Written.{Written}
 use Rattle.bitstream.specs.declared.Reader.{Reader}
 use Rattle.bitstream.specs.declared.Reader.TheVariants.{Fresh, Last}
-use Rattle.bitstream.specs.declared.Reading.{Reading}
+use Rattle.bitstream.specs.declared.Reading as said
 
 -- ---- bits in octets, the first in the top of the first
 
@@ -71,6 +72,20 @@ write_rows s w n lent room =
 unfoldable pub frame_with : BitSettings → ℕ → ℕ → List ℕ → List ℕ
 frame_with s c n bits = sent s.link.trailed (bit_head s c (pointer_for s n) ++ zone_with s n bits)
 
+-- the refusal, 0 for none, and the writer after the call
+pub record Written : Type 0 where
+  pub refusal : ℕ
+  pub writer : Writer
+
+-- a refusal alone, with the record as it was
+abbrev pub no_writing : ℕ → Writer → Written
+no_writing r w = record { refusal = r; writer = w }
+
+-- what an answer to the writer w says
+abbrev pub writes : Writer → Result Writer Refusal → Written
+writes w (Err r) = no_writing (number_of r) w
+writes w (Ok next) = record { refusal = 0; writer = next }
+
 -- an answer, with the octets of the frame's buffer after the call
 pub record Wrote : Type 0 where
   pub said : Written
@@ -86,7 +101,7 @@ written s w bits n frame =
     pick (eqb r 0)
     (wrote (record { refusal = 0; writer = record { count = next_count (count_width s.link) w.count } })
     (over frame 0 (frame_with s w.count n bits)))
-    (wrote (record { refusal = r; writer = w }) frame)
+    (wrote (no_writing r w) frame)
 
 -- ---- reading
 
@@ -112,9 +127,23 @@ loss_flag s x c n = and (untold s x c) (not (eqb n 0))
 unfoldable pub next_reader : BitSettings → Reader → ℕ → ℕ → Reader
 next_reader s x c n = Last c (and (untold s x c) (eqb n 0))
 
+-- what a frame says, or the number that it is refused for, with all else 0; and the reader after the call
+pub record Reading : Type 0 where
+  pub refusal : ℕ
+  pub count : ℕ
+  pub replay : ℕ
+  pub bits : ℕ
+  pub lost : Bool
+  pub reader : Reader
+
 -- a refusal alone, with the record as it was
 abbrev pub no_reading : ℕ → Reader → Reading
 no_reading r x = record { refusal = r; count = 0; replay = 0; bits = 0; lost = false; reader = x }
+
+-- what an answer to the reader x says
+abbrev pub reads : Reader → Result said.Reading Refusal → Reading
+reads x (Err r) = no_reading (number_of r) x
+reads x (Ok a) = record { refusal = 0; count = a.count; replay = a.replay; bits = a.bits; lost = a.lost; reader = a.reader }
 
 -- what a call answers: a refusal alone, or all that the frame says
 unfoldable pub reading : BitSettings → Reader → List ℕ → Reading

@@ -4,12 +4,11 @@ use Rattle.octets.specs.Basics.{All, AllOctets}
 use Rattle.frames.specs.Link.{zone_at, headers, count_width, missing}
 use Rattle.frames.specs.BitFrame.{bits_in_range, bit_zone_of, bit_count, bit_replay, bit_pointer_word, most_bits}
 use Rattle.frames.specs.declared.bits.BitSettings.{BitSettings}
-use Rattle.bitstream.specs.Bitstream.{octets_for, bit_at, pointer_for, zone_with, begun, writer_reachable, written, reader_reachable, loss_flag, next_reader, reading, leading_octets}
+use Rattle.bitstream.specs.Bitstream.{octets_for, bit_at, pointer_for, zone_with, begun, writer_reachable, written, reader_reachable, loss_flag, next_reader, Reading, reading, leading_octets}
 use Rattle.bitstream.specs.Loss.{BitUnit, follows, since_bits, any_lost, flag, units_after, BitsSaid, run_said}
 use Rattle.bitstream.specs.declared.Writer.{Writer}
 use Rattle.bitstream.specs.declared.Reader.{Reader}
 use Rattle.bitstream.specs.declared.Reader.TheVariants.{Fresh, Last}
-use Rattle.bitstream.specs.declared.Reading.{Reading}
 
 -- a frame that was written with this count and n bits is read back: the count, the number of bits, and these bits
 pub record ReadBack (s : BitSettings) (x : Reader) (c n : ℕ) (bits f : List ℕ) : Type 0 where

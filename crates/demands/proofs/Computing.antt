@@ -63,7 +63,7 @@ unfolding trailers usage cycle_width count_in used_as signals signalling link_in
 frames = tt
 
 unfoldable pub multiplexing : Unit {0}
-unfolding frames mux_reachable put_rows filled_frame filled_mux start_now fits_now put flush_rows flush idle_rows idle_frame multiplexer.answers multiplexer.answer
+unfolding frames mux_reachable put_rows filled_frame filled_mux start_now fits_now put flush_rows flush idle_rows idle_frame multiplexer.answers multiplexer.answers_alone multiplexer.answer
 multiplexing = tt
 
 unfoldable pub extracting : Unit {0}

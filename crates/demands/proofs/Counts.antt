@@ -22,10 +22,9 @@ use Rattle.extractor.specs.Extract.{Step, in_step, astray, lost_since, take_in, 
 use Rattle.extractor.specs.Records.{last_count, stands_for, set_off, set_out, enter, enter_rows}
 use Rattle.extractor.specs.Answers.{EnterSaid, entered_as, enter_answer}
 use Rattle.extractor.specs.declared.Extractor.{Extractor}
-use Rattle.bitstream.specs.Bitstream.{Wrote, write_rows, written, read_rows, reading}
+use Rattle.bitstream.specs.Bitstream.{Wrote, write_rows, written, read_rows, Reading, reading}
 use Rattle.bitstream.specs.declared.Writer.{Writer}
 use Rattle.bitstream.specs.declared.Reader.{Reader}
-use Rattle.bitstream.specs.declared.Reading.{Reading}
 use Rattle.carries.specs.Carries.{Rising}
 use Rattle.demands.specs.Counts.{Entered, BitsWritten, BitsRead, Rises, CountsTold}
 

@@ -383,15 +383,17 @@ answers = record {
   refused_header = refl;
   put = refl;
   refused_put = refl;
+  flushed = refl;
+  refused_flush = refl;
   wrapped = refl;
   unwrapped = refl;
   space_read = refl;
   damage_found = λ d. refl;
   damage_read = λ d. refl;
   damage_seen = λ d. refl;
-  damage_put = λ n d. refl;
-  damage_wrapped = λ n d. refl;
-  damage_unwrapped = λ n d. refl;
+  damage_put = λ r d. refl;
+  damage_wrapped = λ r. refl;
+  damage_unwrapped = λ r d. refl;
   damage_entered = λ d. refl;
   lengths = refl;
 }
@@ -405,6 +407,7 @@ together = record {
   spent = refl;
   judging = refl;
   writing_bits = refl;
+  reading_bits = refl;
   writing_space = refl;
   in_c = refl;
 }
@@ -438,7 +441,7 @@ routed = record {
   malformed = refl;
   no_room = refl;
   order = refl;
-  damage_routed = λ n d. refl;
+  damage_routed = λ r d. refl;
   cases = refl;
 }
 

@@ -14,30 +14,26 @@ use Rattle.packets.specs.Header.{bare, told}
 use Rattle.wrapping.specs.Idle.{idle_packet_rows}
 use Rattle.wrapping.specs.Wrap.{wrapped_total, wrap_rows, Wrapping, wrapping}
 use Rattle.packets.specs.Unwrap.{unwrap_rows, Unwrapping, unwrapping}
-use Rattle.relay.specs.Table.{load_rows, table_of, entries_of}
+use Rattle.relay.specs.Table.{load_rows, table_of, entries_of, Loaded}
 use Rattle.relay.specs.Route.{path, route_rows, Routing, routing}
 use Rattle.relay.specs.Route as relay
-use Rattle.relay.specs.declared.Loaded.{Loaded}
 use Rattle.relay.proofs.Ways.{written_unrefused}
-use Rattle.space.specs.Space.{SpaceReading, space_read_rows, space_reading, space_reads, space_rows, space_writing}
-use Rattle.space.specs.declared.SpaceRead.{SpaceRead}
+use Rattle.space.specs.Space.{SpaceReading, space_read_rows, space_refused, space_reading, space_reads, space_rows, space_writing}
 use Rattle.frames.specs.Link.{header_rows, written_rows}
 use Rattle.frames.specs.Frame.{count, replay, pointer, frame_rows, heading_rows, heading_of, heading, head_rows}
 use Rattle.frames.specs.BitFrame.{bit_count, bit_replay, bit_pointer, bit_frame_rows, bit_heading_rows, bit_heading, bit_head_rows}
-use Rattle.frames.specs.declared.Heading.{Heading}
+use Rattle.frames.specs.Shape.{Heading}
 use Rattle.frames.specs.declared.Settings.{Settings}
 use Rattle.multiplexer.specs.Multiplex.{put_rows, flush_rows, idle_rows}
 use Rattle.multiplexer.specs.Calls.{Call, to_put, to_flush, to_idle, call_rows, call, call_damage, refusing, doing, answer}
 use Rattle.multiplexer.specs.declared.Mux.{Mux}
 use Rattle.extractor.specs.Records.{checked, enter_rows, steps_to, step_rows, step, step_call}
-use Rattle.extractor.specs.Answers.{refused_entry, entered_as, enter_answer, refused_step, said, found_numbers, step_answer}
+use Rattle.extractor.specs.Answers.{refused_enter, entered_as, enter_answer, refused_step, said, found_numbers, step_answer}
 use Rattle.extractor.specs.Calls.{spend_answer}
-use Rattle.extractor.specs.declared.Found.TheVariants.{Refused}
-use Rattle.judge.specs.Calls.{judging, judge_frame, frame_refusals, judge_answers, frame_call, judge_close, close_rows, close_says, closes_with, close_call}
+use Rattle.extractor.specs.Found.{Refused}
+use Rattle.judge.specs.Calls.{judge_frame, frame_refusals, judge_answers, judge_refused, frame_call, judge_close, close_rows, close_refused, close_says, closes_with, close_call}
 use Rattle.judge.specs.Tapes.{tape_refusals, tape_call}
-use Rattle.judge.specs.declared.Closed.{Closed}
-use Rattle.bitstream.specs.Bitstream.{write_rows, Wrote, wrote, written, read_rows, reading}
-use Rattle.bitstream.specs.declared.Reading.{Reading}
+use Rattle.bitstream.specs.Bitstream.{write_rows, no_writing, Wrote, wrote, written, read_rows, Reading, no_reading, reading}
 use Rattle.carries.specs.Carries.{Among}
 use Rattle.demands.specs.Numbers.Only.{OnlyThese}
 use Rattle.demands.proofs.Promised.{by_rows, through}
@@ -102,8 +98,7 @@ only_these = record {
   flush = λ s m frame. called s m to_flush frame;
   idle = λ s m frame. called s m to_idle frame;
   enter = λ s x store f.
-      among (λ a. a.answer.refusal) (enter_rows s x store f) (entered_as s x store f) (λ n. record { answer = refused_entry n; next = x })
-      refl refl (λ n. refl);
+      among (λ a. a.answer.refusal) (enter_rows s x store f) (entered_as s x store f) (refused_enter x) refl refl (λ n. refl);
   step = λ s x store f.
       among (λ a. a.answer.refusal) (step_rows s x store f) (said f (step s f store x))
       (λ n. record { answer = refused_step n; next = x; store = store })
@@ -112,14 +107,11 @@ only_these = record {
   spend = λ s x store f. first_among (step_rows s x store f);
   held = λ s x store. first_among (checked s x store []);
   judge = λ s store j f.
-      among (λ a. a.refusal) (frame_refusals s store j) (judge_answers 0 (judge_frame s store j f)) (λ n. judge_answers n (judging j store))
-      refl refl (λ n. refl);
+      among (λ a. a.refusal) (frame_refusals s store j) (judge_answers 0 (judge_frame s store j f)) (judge_refused j store) refl refl (λ n. refl);
   tape = λ s store j t.
-      among (λ a. a.refusal) (tape_refusals s store j t) _ (λ n. judge_answers n (judging j store)) refl refl (λ n. refl);
+      among (λ a. a.refusal) (tape_refusals s store j t) _ (judge_refused j store) refl refl (λ n. refl);
   close = λ s store j.
-      among (λ a. a.refusal) (close_rows s store j) (close_says (closes_with (judge_close j))) (λ n. close_says (Closed.Refused n))
-      (through close_says (eqb (first (close_rows s store j)) 0) (closes_with (judge_close j)) (Closed.Refused (first (close_rows s store j))))
-      (closes_unrefused (judge_close j)) (λ n. refl);
+      among (λ a. a.refusal) (close_rows s store j) (close_says (closes_with (judge_close j))) close_refused refl (closes_unrefused (judge_close j)) (λ n. refl);
   wrap = λ limit protocol extension unit output.
       among (λ (a : Wrapping). a.refusal) (wrap_rows limit protocol extension (length unit) (wrapped_total protocol (length unit)) (length output))
       _ (λ n. record { accepted = false; refusal = n; damage = 0; total = 0; output = output }) refl refl (λ n. refl);
@@ -137,14 +129,13 @@ only_these = record {
       (reading_by_row limit os) (told_unrefused os (look limit os)) (λ n. refl);
   write_idle = λ r room. first_among (idle_packet_rows r room);
   read_space = λ os.
-      among (λ (a : SpaceReading). a.refusal) (space_read_rows os) _ (λ n. space_reads (SpaceRead.Refused n)) refl refl (λ n. refl);
+      among (λ (a : SpaceReading). a.refusal) (space_read_rows os) _ space_refused refl refl (λ n. refl);
   write_space = λ h output. first_among (space_rows h (length output));
   write_bits = λ s w bits n frame.
-      among (λ (a : Wrote). a.said.refusal) (write_rows s w n (length bits) (length frame)) _ (λ r. wrote (record { refusal = r; writer = w }) frame)
+      among (λ (a : Wrote). a.said.refusal) (write_rows s w n (length bits) (length frame)) _ (λ r. wrote (no_writing r w) frame)
       refl refl (λ r. refl);
   read_bits = λ s x f.
-      among (λ (a : Reading). a.refusal) (read_rows s x f) _
-      (λ n. record { refusal = n; count = 0; replay = 0; bits = 0; lost = false; reader = x }) refl refl (λ n. refl);
+      among (λ (a : Reading). a.refusal) (read_rows s x f) _ (λ n. no_reading n x) refl refl (λ n. refl);
   read_head = λ s f. headed (heading_rows s f) (count s f) (replay s f) (pointer s f);
   read_bit_head = λ s f. headed (bit_heading_rows s f) (bit_count s f) (bit_replay s f) (bit_pointer s f);
   write_head = λ s c p buffer. first_among (head_rows s c p buffer);

@@ -7,8 +7,10 @@ use mathlib.Core.Bool.{Bool, true, false}
 use lib.Dec.{eqb}
 use borrow.Author.Tests.{ne_eqb}
 use Rattle.octets.specs.Basics.{pick, Row, first}
+use Rattle.octets.specs.Refusals.{refusal_of}
+use Rattle.octets.proofs.ByNumber.{same_refusal}
 use Rattle.octets.proofs.Choices.{refusal_kept}
-use Rattle.demands.specs.Promises.{Left, Contract, as_read, Gives, Is, Promised, Writes}
+use Rattle.demands.specs.Promises.{Left, Contract, as_read, Gives, Is, Promised, numbered, Writes}
 
 -- what a call is given: what is done where no row holds, and the refusal where one does
 abbrev pub by_rows : {B : Type 0} → List Row → B → (ℕ → B) → B
@@ -35,25 +37,33 @@ pub left_same : {A : Type 0} (o o' : Left A) → o.answer ≡ o'.answer → o.le
 left_same {A} o o' p q =
     ap (λ (a : A). record { answer = a; lent = o.lent }) p ∙ ap (λ (l : List ℕ). record { answer = o'.answer; lent = l }) q
 
--- a call whose contract asks nothing and is that its outcome is what is given
+-- a call whose contract is that its outcome is what is given; it asks what is so of any call
+pub exactly_where : {O asks : Type 0} {given : O} → asks → Is (as_read asks (λ r. r ≡ given)) given
+exactly_where free = record { free = free; gives = λ r m. m; one = λ r r' p q. p ∙ sym q }
+
+-- and where it asks nothing
 pub exactly : {O : Type 0} {given : O} → Is (as_read (Unit {0}) (λ r. r ≡ given)) given
-exactly = record { free = tt; gives = λ r m. m; one = λ r r' p q. p ∙ sym q }
+exactly = exactly_where tt
 
 -- a call that answers its refusal alone, and writes new octets over the old where there is none
-pub writes : (rows : List Row) (new old : List ℕ)
-    → Writes (as_read (Unit {0}) (λ o. (o.answer ≡ first rows) × (o.lent ≡ pick (eqb o.answer 0) new old))) rows new old
-writes rows new old = record {
+pub writes_where : {asks : Type 0} → asks → (rows : List Row) (new old : List ℕ)
+    → Writes (as_read asks (λ o. (refusal_of o.answer ≡ first rows) × (o.lent ≡ pick (eqb (refusal_of o.answer) 0) new old))) rows new old
+writes_where free rows new old = record {
   refuses = record {
     numbered = λ o m. m.0;
     kept = λ o m h.
-        left_same o (record { answer = first rows; lent = old }) m.0
+        left_same (numbered o) (record { answer = first rows; lent = old }) m.0
         (m.1 ∙ ap (λ (n : ℕ). pick (eqb n 0) new old) m.0 ∙ ap (λ (t : Bool). pick t new old) (ne_eqb (first rows) 0 h));
   };
   gives = record {
-    free = tt;
-    gives = λ o m. left_same o _ m.0 (m.1 ∙ ap (λ (n : ℕ). pick (eqb n 0) new old) m.0);
+    free = free;
+    gives = λ o m. left_same (numbered o) _ m.0 (m.1 ∙ ap (λ (n : ℕ). pick (eqb n 0) new old) m.0);
     one = λ o o' m m'.
-        let same : o.answer ≡ o'.answer = m.0 ∙ sym m'.0 in
-        left_same o o' same (m.1 ∙ ap (λ (n : ℕ). pick (eqb n 0) new old) same ∙ sym m'.1);
+        let same : refusal_of o.answer ≡ refusal_of o'.answer = m.0 ∙ sym m'.0 in
+        left_same o o' (same_refusal o.answer o'.answer same) (m.1 ∙ ap (λ (n : ℕ). pick (eqb n 0) new old) same ∙ sym m'.1);
   };
 }
+
+pub writes : (rows : List Row) (new old : List ℕ)
+    → Writes (as_read (Unit {0}) (λ o. (refusal_of o.answer ≡ first rows) × (o.lent ≡ pick (eqb (refusal_of o.answer) 0) new old))) rows new old
+writes = writes_where tt

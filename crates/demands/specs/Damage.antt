@@ -18,7 +18,7 @@ use Rattle.extractor.specs.Calls.{event_at}
 use Rattle.extractor.specs.Records.{step_rows}
 use Rattle.extractor.specs.Answers.{EnterNumbers, StepNumbers, step_answer}
 use Rattle.extractor.specs.declared.Extractor.TheVariants.{Walking}
-use Rattle.extractor.specs.declared.Found.TheVariants.{Damaged}
+use Rattle.extractor.specs.Found.{Damaged}
 use Rattle.exports.specs.Packet.{header_numbers, wrap_numbers, unwrap_numbers}
 use Rattle.exports.specs.Mux.{put_numbers}
 use Rattle.exports.specs.Extract.{enter_numbers, step_numbers}

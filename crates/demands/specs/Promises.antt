@@ -2,9 +2,11 @@
 -- The toolchain reads a contract at a call as two types: `Pre`, what its `requires` asks, and `Post`, what its `ensures` says. `Pre` is of
 -- the call's lifetimes and its arguments; `Post` of these, the result, and the arguments as they are left: a slice that is lent to be
 -- written stays where it was, with other elements (`at_last`), and all else stays as it was.
-use Rattle.std.specs.Prelude.{ℕ, ◌≡◌, List, eqb}
+use Rattle.std.specs.Prelude.{ℕ, ◌≡◌, List, Result, eqb}
 use Rattle.std.specs.Borrow.{Bor, MutBor}
 use Rattle.octets.specs.Basics.{pick, Row, first}
+use Rattle.octets.specs.Refusals.{refusal_of}
+use Rattle.octets.specs.declared.refusals.Refusal.{Refusal}
 
 -- a slice that is lent to be read: where it lies, and its elements, which `now` reads
 abbrev pub Slice : Type 0
@@ -57,7 +59,11 @@ pub record Promised {O B : Type 0} (c : Contract O) (given : B) (rows : List Row
   pub refuses : Refuses c rows says number refused
   pub gives : Gives c says given
 
+-- an outcome with its refusal as a number, 0 where there is none
+abbrev pub numbered : {A : Type 0} → Left (Result A Refusal) → Left ℕ
+numbered o = record { answer = refusal_of o.answer; lent = o.lent }
+
 -- a call that answers its refusal alone, and writes new octets over the old where there is none
-abbrev pub Writes : Contract (Left ℕ) → List Row → List ℕ → List ℕ → Type 0
+abbrev pub Writes : Contract (Left (Result (Unit {0}) Refusal)) → List Row → List ℕ → List ℕ → Type 0
 Writes c rows new old =
-    Promised c (record { answer = first rows; lent = pick (eqb (first rows) 0) new old }) rows (λ o. o) (λ o. o.answer) (λ n. record { answer = n; lent = old })
+    Promised c (record { answer = first rows; lent = pick (eqb (first rows) 0) new old }) rows numbered (λ o. o.answer) (λ n. record { answer = n; lent = old })

@@ -1,26 +1,17 @@
 -- The tables that loading leaves in an array are those that routing takes.
 -- Assumes nothing.
-use mathlib.Core.Path.{◌≡◌, refl, sym, ap, ◌∙◌}
-use mathlib.Core.List.{List, [], ◌∷◌, ◌++◌}
-use mathlib.Core.Bool.{true, false, not}
-use Prim.Native.Nat.{ℕ, zero, suc, ◌+◌, ◌-◌, ◌*◌, ◌/◌, ◌%◌, ◌≤◌, ◌<◌}
-use native.Mathlib.Nat.{le_of_suc-le-suc}
-use native.Mathlib.Omega.{arith}
-use lib.ListN.{length, take, drop, get_or, replicate, length-take, length-append, length-replicate, take-append-drop}
+use Rattle.std.proofs.Common.{◌≡◌, ℕ, zero, suc, ◌+◌, ◌-◌, ◌*◌, ◌/◌, ◌%◌, ◌≤◌, ◌<◌, List, [], ◌∷◌, ◌++◌, true, false, length, take, drop, get_or, replicate, refl, sym, ap, ◌∙◌, arith, length-take, length-append, take-append-drop}
+use Rattle.std.proofs.lemmas.Bool.Decides.{nat_tests}
+use Rattle.std.proofs.lemmas.List.{length-replicate}
 use lib.Seq.{take_all, length-take-le}
-use lib.Dec.{ltb, eqb}
-use borrow.Author.Tests.{lt-ltb, not-false, eqb-true, le-ltb, ltb-false}
-use Rattle.octets.specs.Basics.{All, or, over}
-use Rattle.octets.proofs.Tests.{test, or_all}
-use Rattle.octets.proofs.Choices.{or_false, apart}
+use Rattle.octets.specs.Basics.{All, over}
 use Rattle.octets.proofs.Fronts.{all_joined}
 use Rattle.octets.proofs.Written.{laid_within}
 use Rattle.arrays.specs.Arrays.{told}
-use Rattle.relay.specs.Table.{pair, no_entry, above, empty, entries_of, is_table, loading}
+use Rattle.relay.specs.Table.{pair, no_entry, above, empty, entries_of, is_table, Loaded, loading}
 use Rattle.relay.specs.Table as relay
 use Rattle.relay.specs.declared.Entry.{Entry}
 use Rattle.relay.specs.declared.Table.{Table}
-use Rattle.relay.specs.declared.Loaded.{Loaded}
 use Rattle.relay.proofs.Tables.{reached, loads, taken, its_refusal, not_refused, past_entries, its_entries}
 use Rattle.relay.proofs.Ways.{none_above}
 use Rattle.exports.specs.Left.{left}
@@ -35,12 +26,7 @@ use Rattle.exports.proofs.Theorems.{table_again}
 -- an entry with an APID that a table can have is the two numbers
 as_stated : (a d : ℕ) → (entry_of a d).apid ≤ 2046 → (entry_of a d ≡ pair a d) × (d ≤ 255)
 unfolding entry_of
-as_stated a d h =
-    test (ltb 65535 a) (λ t. absurd (beyond (rw t at h)))
-    (λ t. test (ltb 255 d) (λ s. absurd (beyond (rw (t, s) at h))) (λ s. (rw (t, s) refl, ltb-false 255 d s)))
-  where
-    beyond : 65535 ≤ 2046 → ⊥
-    beyond k = omega arith
+as_stated a d h = grind (arith, nat_tests)
 
 -- every entry has such an APID
 abbrev Low : List Entry → Type 0
@@ -49,7 +35,7 @@ Low es = All (λ e. e.apid ≤ 2046) es
 low : (es : List Entry) → above es ≡ false → Low es
 unfolding above
 low [] h = tt
-low (e ∷ es) h = let k = or_false (ltb 2046 e.apid) (above es) h in (ltb-false 2046 e.apid k.0, low es k.1)
+low (e ∷ es) h = let rest = low es in grind (arith, nat_tests)
 
 low_none : (n : ℕ) → Low (replicate n no_entry)
 low_none zero = tt
@@ -63,8 +49,7 @@ numbers_back (suc k) [] h f = absurd (omega arith)
 numbers_back (suc k) (a ∷ []) h f = absurd (omega arith)
 numbers_back (suc k) (a ∷ d ∷ xs) h f =
     let e : 2 * suc k ≡ suc (suc (2 * k)) = omega arith in
-    let s : entry_of a d ≡ pair a d = (as_stated a d f.0).0 in
-    rw (s, e) (ap (λ (l : List ℕ). a ∷ d ∷ l) (numbers_back k xs (omega arith) f.1))
+    grind (arith, nat_tests, e, as_stated a d f.0, numbers_back k xs (omega arith) f.1)
 
 not_wide : (k : ℕ) (xs : List ℕ) → 2 * k ≤ length xs → Low (array.entries_of k xs) → wide (take (2 * k) xs) ≡ false
 unfolding array.entries_of wide
@@ -73,14 +58,14 @@ not_wide (suc k) [] h f = absurd (omega arith)
 not_wide (suc k) (a ∷ []) h f = absurd (omega arith)
 not_wide (suc k) (a ∷ d ∷ xs) h f =
     let e : 2 * suc k ≡ suc (suc (2 * k)) = omega arith in
-    rw (e, le-ltb 255 d (as_stated a d f.0).1) (not_wide k xs (omega arith) f.1)
+    rw e (grind (arith, nat_tests, as_stated a d f.0, not_wide k xs (omega arith) f.1))
 
 -- the first n of k
 first_of : (n k : ℕ) (xs : List ℕ) → n ≤ k → take n (array.entries_of k xs) ≡ array.entries_of n xs
 unfolding array.entries_of
 first_of zero k xs h = refl
 first_of (suc n) zero xs h = absurd (omega arith)
-first_of (suc n) (suc k) xs h = ap (λ (l : List Entry). entry_of (get_or xs 0 0) (get_or xs 1 0) ∷ l) (first_of n k (drop 2 xs) (le_of_suc-le-suc h))
+first_of (suc n) (suc k) xs h = rw (first_of n k (drop 2 xs) (omega arith))
 
 -- so they are of the numbers of the first n alone
 first_again : (n k : ℕ) (xs : List ℕ) → n ≤ k → 2 * n ≤ length xs → take n (array.entries_of k (take (2 * n) xs)) ≡ array.entries_of n xs
@@ -91,30 +76,27 @@ first_again (suc n) (suc k) [] h l = absurd (omega arith)
 first_again (suc n) (suc k) (a ∷ []) h l = absurd (omega arith)
 first_again (suc n) (suc k) (a ∷ d ∷ xs) h l =
     let e : 2 * suc n ≡ suc (suc (2 * n)) = omega arith in
-    rw e (ap (λ (m : List Entry). entry_of a d ∷ m) (first_again n k xs (le_of_suc-le-suc h) (omega arith)))
+    rw (e, first_again n k xs (omega arith) (omega arith))
 
 -- ---- destinations in any entry
 
-pub wide_anywhere : (ns : List ℕ) (i : ℕ) → 2 * i + 1 < length ns → 255 < get_or ns (2 * i + 1) 0 → wide ns ≡ true
+wide_anywhere : (ns : List ℕ) (i : ℕ) → 2 * i + 1 < length ns → 255 < get_or ns (2 * i + 1) 0 → wide ns ≡ true
 unfolding wide
 wide_anywhere [] i h w = absurd (omega arith)
 wide_anywhere (a ∷ []) i h w = absurd (omega arith)
-wide_anywhere (a ∷ d ∷ ns) zero h w = rw (lt-ltb 255 d w) refl
+wide_anywhere (a ∷ d ∷ ns) zero h w = grind (arith, nat_tests)
 wide_anywhere (a ∷ d ∷ ns) (suc i) h w =
     let e : 2 * suc i + 1 ≡ suc (suc (2 * i + 1)) = omega arith in
-    let v : 255 < get_or ns (2 * i + 1) 0 = rw e at w in
-    rw (wide_anywhere ns i (omega arith) v) (or_all (ltb 255 d))
+    grind (arith, nat_tests, wide_anywhere ns i (omega arith) (rw e at w))
 
-pub not_wide_anywhere : (ns : List ℕ) → ((i : ℕ) → 2 * i + 1 < length ns → get_or ns (2 * i + 1) 0 ≤ 255) → wide ns ≡ false
+not_wide_anywhere : (ns : List ℕ) → ((i : ℕ) → 2 * i + 1 < length ns → get_or ns (2 * i + 1) 0 ≤ 255) → wide ns ≡ false
 unfolding wide
 not_wide_anywhere [] n = refl
 not_wide_anywhere (a ∷ []) n = refl
-not_wide_anywhere (a ∷ d ∷ ns) n = rw (le-ltb 255 d (n 0 (omega arith)), not_wide_anywhere ns later) refl
+not_wide_anywhere (a ∷ d ∷ ns) n = grind (arith, nat_tests, n 0 (omega arith), not_wide_anywhere ns later)
   where
     later : (i : ℕ) → 2 * i + 1 < length ns → get_or ns (2 * i + 1) 0 ≤ 255
-    later i h =
-        let e : 2 * suc i + 1 ≡ suc (suc (2 * i + 1)) = omega arith in
-        rw e at (n (suc i) (omega arith))
+    later i h = let e : 2 * suc i + 1 ≡ suc (suc (2 * i + 1)) = omega arith in rw e at (n (suc i) (omega arith))
 
 -- ---- a table in its array that passes
 
@@ -126,7 +108,7 @@ table_low t e =
 -- loading goes by the entries that count
 loading_alike : (old : Table) (n : ℕ) (es fs : List Entry) → take n es ≡ take n fs → loading old n es ≡ loading old n fs
 unfolding loading
-loading_alike old n es fs e = rw e refl
+loading_alike old n es fs e = rw e
 
 told_same : (ns : List ℕ) → 65 ≤ length ns → told ns (take 65 ns) ≡ ns
 unfolding over
@@ -163,35 +145,25 @@ module _ (n : ℕ) (xs : List ℕ) (h : 64 ≤ length xs) (e : is_table (array.t
   unfolding array.table_of table_numbers
   numbers = ap (λ (l : List ℕ). n ∷ l) (numbers_back 32 xs h all_low)
 
-  pub loaded_again : load_leaves (take (2 * n) xs) (n ∷ xs) ≡ left 0 (n ∷ xs) [] []
+  loaded_again : load_leaves (take (2 * n) xs) (n ∷ xs) ≡ left 0 (n ∷ xs) [] []
   unfolding load_leaves
   loaded_again =
       let even : (2 * n) % 2 ≡ 0 = omega arith in
       let half : (2 * n) / 2 ≡ n = omega arith in
-      rw (
-        listed_long,
-        even,
-        le-ltb (length (n ∷ xs)) 65 (omega arith),
-        not_wide n xs (omega (arith, few)) first_low,
-        half,
-        loaded,
-        numbers,
-        told_same (n ∷ xs) (omega arith),
-      ) refl
+      let narrow = not_wide n xs (omega (arith, few)) first_low in
+      grind (arith, nat_tests, listed_long, even, half, narrow, loaded, numbers, told_same (n ∷ xs))
 
 -- ---- a table that is loaded: its numbers are those of the list, and zeros behind them
 
 numbers_joined : (es fs : List Entry) → entry_numbers (es ++ fs) ≡ entry_numbers es ++ entry_numbers fs
 unfolding entry_numbers
 numbers_joined [] fs = refl
-numbers_joined (e ∷ es) fs = ap (λ (l : List ℕ). e.apid ∷ e.destination ∷ l) (numbers_joined es fs)
+numbers_joined (e ∷ es) fs = rw (numbers_joined es fs)
 
 numbers_none : (k : ℕ) → entry_numbers (replicate k no_entry) ≡ replicate (2 * k) 0
 unfolding entry_numbers
 numbers_none zero = refl
-numbers_none (suc k) =
-    let e : 2 * suc k ≡ suc (suc (2 * k)) = omega arith in
-    rw e (ap (λ (l : List ℕ). 0 ∷ 0 ∷ l) (numbers_none k))
+numbers_none (suc k) = let e : 2 * suc k ≡ suc (suc (2 * k)) = omega arith in rw (e, numbers_none k)
 
 -- the list's own numbers, for n entries
 listed_numbers : (n : ℕ) (entries : List ℕ) → length entries ≡ 2 * n → n ≤ 32 → Low (array.entries_of n entries)
@@ -202,7 +174,7 @@ listed_numbers n entries long few fits =
     let count : length some ≡ n = entries_long n entries in
     let own : entry_numbers some ≡ entries = numbers_back n entries (omega arith) fits ∙ take_all (2 * n) entries (omega arith) in
     let zeros : 2 * (32 - n) ≡ 64 - length entries = omega arith in
-    rw (first_of n 32 entries few, count, numbers_joined some (replicate (32 - n) no_entry), own, numbers_none (32 - n), zeros) refl
+    rw (first_of n 32 entries few, count, numbers_joined some (replicate (32 - n) no_entry), own, numbers_none (32 - n), zeros)
 
 -- ---- and it passes
 
@@ -212,9 +184,7 @@ Words es = All (λ e. (e.apid ≤ 65535) × (e.destination ≤ 255)) es
 
 word : (a d : ℕ) → ((entry_of a d).apid ≤ 65535) × ((entry_of a d).destination ≤ 255)
 unfolding entry_of
-word a d =
-    test (ltb 65535 a) (λ t. rw t (omega arith, omega arith))
-    (λ t. test (ltb 255 d) (λ s. rw (t, s) (omega arith, omega arith)) (λ s. rw (t, s) (ltb-false 65535 a t, ltb-false 255 d s)))
+word a d = grind (arith, nat_tests)
 
 words : (k : ℕ) (xs : List ℕ) → Words (array.entries_of k xs)
 unfolding array.entries_of
@@ -239,43 +209,37 @@ made_words n es long w =
     )
 
 module _ (entries table : List ℕ) where
-  loaded_numbers : length entries % 2 ≡ 0 → (loading empty (length entries / 2) (array.entries_of 32 entries)).refusal ≡ 0
-      → table_numbers (loading empty (length entries / 2) (array.entries_of 32 entries)).table ≡ length entries / 2 ∷ (entries ++ replicate (64 - length entries) 0)
+  abbrev made : Loaded
+  made = loading empty (length entries / 2) (array.entries_of 32 entries)
+
+  none_refused : made.refusal ≡ 0 → made ≡ record { refusal = 0; table = relay.table_of (take (length entries / 2) (array.entries_of 32 entries)) }
+  none_refused e = taken empty (length entries / 2) (array.entries_of 32 entries) (sym (its_refusal empty (length entries / 2) (array.entries_of 32 entries)) ∙ e)
+
+  loaded_numbers : length entries % 2 ≡ 0 → made.refusal ≡ 0
+      → table_numbers made.table ≡ length entries / 2 ∷ (entries ++ replicate (64 - length entries) 0)
   loaded_numbers even e =
       let n : ℕ = length entries / 2 in
       let lent : List Entry = array.entries_of 32 entries in
-      let none = sym (its_refusal empty n lent) ∙ e in
-      let few = not_refused n (take n lent) none in
+      let few = not_refused n (take n lent) (sym (its_refusal empty n lent) ∙ e) in
       let fits : Low (array.entries_of n entries) = rw (first_of n 32 entries few.0) at (low (take n lent) (none_above (take n lent) few.1)) in
-      ap (λ (l : Loaded). table_numbers l.table) (taken empty n lent none) ∙ listed_numbers n entries (omega arith) few.0 fits
+      ap (λ (l : Loaded). table_numbers l.table) (none_refused e) ∙ listed_numbers n entries (omega arith) few.0 fits
 
-  loaded_table : 65 ≤ length table → (loading empty (length entries / 2) (array.entries_of 32 entries)).refusal ≡ 0
-      → is_table (array.table_of (told table (table_numbers (loading empty (length entries / 2) (array.entries_of 32 entries)).table))) ≡ true
+  loaded_table : 65 ≤ length table → made.refusal ≡ 0 → is_table (array.table_of (told table (table_numbers made.table))) ≡ true
   loaded_table h e =
       let n : ℕ = length entries / 2 in
       let lent : List Entry = array.entries_of 32 entries in
-      let is : (loading empty n lent).table ≡ relay.table_of (take n lent) = ap (λ (l : Loaded). l.table) (taken empty n lent (sym (its_refusal empty n lent) ∙ e)) in
-      let again : array.table_of (told table (table_numbers (loading empty n lent).table)) ≡ (loading empty n lent).table =
-      table_again table (loading empty n lent).table h (rw is (made_words n lent (entries_long 32 entries) (words 32 entries))) in
-      ap is_table again ∙ (loads empty n lent).passes e
+      let is : made.table ≡ relay.table_of (take n lent) = ap (λ (l : Loaded). l.table) (none_refused e) in
+      ap is_table (table_again table made.table h (rw is (made_words n lent (entries_long 32 entries) (words 32 entries))))
+      ∙ (loads empty n lent).passes e
 
-  pub loaded_holds : (load_leaves entries table).refusal ≡ 0
+  loaded_holds : (load_leaves entries table).refusal ≡ 0
       → (load_leaves entries table).numbers ≡ told table (length entries / 2 ∷ (entries ++ replicate (64 - length entries) 0))
   unfolding load_leaves
-  loaded_holds =
-      test (or (not (eqb (length entries % 2) 0)) (ltb (length table) 65)) (λ t. rw t (λ e. apart (omega arith)))
-      (λ t.
-      let even : eqb (length entries % 2) 0 ≡ true = not-false _ (or_false (not (eqb (length entries % 2) 0)) (ltb (length table) 65) t).0 in
-      rw t (test (wide entries) (λ w. rw w (λ e. apart (omega arith)))
-      (λ w. rw w (λ e. rw e (ap (told table) (loaded_numbers (eqb-true (length entries % 2) 0 even) e))))))
+  loaded_holds e = grind (arith, nat_tests, loaded_numbers)
 
-  pub loaded_passes : (load_leaves entries table).refusal ≡ 0 → is_table (array.table_of (load_leaves entries table).numbers) ≡ true
+  loaded_passes : (load_leaves entries table).refusal ≡ 0 → is_table (array.table_of (load_leaves entries table).numbers) ≡ true
   unfolding load_leaves
-  loaded_passes =
-      test (or (not (eqb (length entries % 2) 0)) (ltb (length table) 65)) (λ t. rw t (λ e. apart (omega arith)))
-      (λ t.
-      let room : 65 ≤ length table = ltb-false (length table) 65 (or_false (not (eqb (length entries % 2) 0)) (ltb (length table) 65) t).1 in
-      rw t (test (wide entries) (λ w. rw w (λ e. apart (omega arith))) (λ w. rw w (λ e. rw e (loaded_table room e)))))
+  loaded_passes e = grind (arith, nat_tests, loaded_table)
 
 pub tables_loaded : TablesLoaded
 tables_loaded = record { holds = loaded_holds; passes = loaded_passes; again = loaded_again; wide = wide_anywhere; narrow = not_wide_anywhere }

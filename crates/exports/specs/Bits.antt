@@ -3,11 +3,10 @@ use Rattle.std.specs.Prelude.{ℕ, List, [], ◌∷◌, Bool, false, length, get
 use Rattle.octets.specs.Basics.{pick, and, or}
 use Rattle.frames.specs.Link.{zone_at}
 use Rattle.frames.specs.declared.bits.BitSettings.{BitSettings}
-use Rattle.bitstream.specs.Bitstream.{Wrote, written, reading, leading_octets}
+use Rattle.bitstream.specs.Bitstream.{Wrote, written, Reading, reading, leading_octets}
 use Rattle.bitstream.specs.declared.Writer.{Writer}
 use Rattle.bitstream.specs.declared.Reader.{Reader}
 use Rattle.bitstream.specs.declared.Reader.TheVariants.{Fresh, Last}
-use Rattle.bitstream.specs.declared.Reading.{Reading}
 use Rattle.arrays.specs.Arrays.{told, kept, bit, octet_of, count_of}
 use Rattle.exports.specs.Left.{Left, left}
 use Rattle.exports.specs.Channel.{link_of, zone_for}

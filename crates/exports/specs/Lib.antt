@@ -1,4 +1,5 @@
 pub mod Left
+pub mod Stated
 pub mod Packet
 pub mod Spaces
 pub mod Channel

@@ -1,11 +1,10 @@
 -- Relay tables in the numbers of the C interface.
 use Rattle.std.specs.Prelude.{ℕ, zero, suc, ◌/◌, ◌%◌, List, [], ◌∷◌, Bool, false, not, length, get_or, drop, ltb, eqb}
 use Rattle.octets.specs.Basics.{pick, or}
-use Rattle.relay.specs.Table.{pair, empty, loading}
+use Rattle.relay.specs.Table.{pair, empty, Loaded, loading}
 use Rattle.relay.specs.Route.{Routing, routing}
 use Rattle.relay.specs.declared.Entry.{Entry}
 use Rattle.relay.specs.declared.Table.{Table}
-use Rattle.relay.specs.declared.Loaded.{Loaded}
 use Rattle.arrays.specs.Arrays.{told, kept}
 use Rattle.exports.specs.Left.{Left, left}
 

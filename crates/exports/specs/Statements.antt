@@ -1,16 +1,17 @@
 -- What is shown of the C interface besides each call's promise.
-use Rattle.std.specs.Prelude.{◌≡◌, ℕ, ◌+◌, ◌-◌, ◌*◌, ◌/◌, ◌≤◌, ◌<◌, List, [], ◌∷◌, ◌++◌, Bool, true, false, not, length, get_or, take, drop, replicate, eqb}
+use Rattle.std.specs.Prelude.{◌≡◌, ℕ, ◌+◌, ◌-◌, ◌*◌, ◌/◌, ◌≤◌, ◌<◌, List, [], ◌∷◌, ◌++◌, Bool, true, false, not, length, get_or, take, drop, replicate, eqb, Result}
 use Rattle.octets.specs.Basics.{pick, and, All}
 use Rattle.frames.specs.declared.Settings.{Settings}
 use Rattle.packets.specs.Header.{reading}
 use Rattle.packets.specs.Packet.{limit_in_range}
 use Rattle.packets.specs.Unwrap.{unwraps, unit_part}
-use Rattle.packets.specs.declared.unwrapping.Unwrapped.{Unwrapped}
+use Rattle.packets.specs.declared.damage.Refused.{Refused}
+use Rattle.packets.specs.declared.unwrapping.Unit as unwrapping
 use Rattle.multiplexer.specs.Calls.{to_flush, answer}
 use Rattle.multiplexer.specs.declared.Mux.{Mux}
 use Rattle.extractor.specs.Records.{shown}
 use Rattle.extractor.specs.Answers.{enter_answer, found_numbers, step_answer}
-use Rattle.extractor.specs.declared.Found.{Found}
+use Rattle.extractor.specs.Found.{Found}
 use Rattle.extractor.specs.declared.Extractor.{Extractor}
 use Rattle.extractor.specs.declared.Extractor.TheVariants.{Fresh, Astray, InStep, Walking, Leaving}
 use Rattle.judge.specs.Calls.{close_call}
@@ -99,7 +100,7 @@ part_named frame store ns = take (get_or ns 2 0) (drop (get_or ns 1 0) (pick (eq
 -- what is laid into an answer's array by unwrapping or by a step, lent to `itz_unit_part` or `itz_show`, names the very octets that
 -- `unit_part` and `show` hand back for that answer
 pub record PartsNamed (array : List ℕ) : Type 0 where
-  pub unit : (u : Unwrapped) (packet : List ℕ) → 5 ≤ length array
+  pub unit : (u : Result unwrapping.Unit Refused) (packet : List ℕ) → 5 ≤ length array
       → unit_named packet (unit_numbers (told array (unwrap_numbers (unwraps u))) packet) ≡ unit_part packet u
   pub step : (found : Found) (frame store : List ℕ) → 5 ≤ length array
       → part_named frame store (show_numbers (told array (step_numbers (found_numbers frame store found))) frame store) ≡ shown frame store found

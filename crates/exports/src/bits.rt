@@ -1,56 +1,49 @@
 // The bitstream channel.
-ghost use Rattle.std.specs.Prelude.{◌≡◌, ℕ, List, [], ◌∷◌, length, eqb};
-ghost use Rattle.octets.specs.Basics.{pick};
-ghost use Rattle.bitstream.specs.Bitstream.{leading_octets};
-ghost use Rattle.frames.specs.declared.bits.BitSettings.{BitSettings};
+ghost use Rattle.std.specs.Prelude.{◌≡◌, [], ◌∷◌};
+ghost use Rattle.bitstream.specs.Bitstream.{reads};
+ghost use Rattle.bitstream.specs.declared.Reader.{Reader};
 ghost use Rattle.exports.specs.Left.{left};
-ghost use Rattle.exports.specs.Bits.{bit_settings_of, bits_short, writer_of, write_leaves, unread, reader_with, reader_of, reader_numbers, read_numbers, read_leaves};
+ghost use Rattle.exports.specs.Stated.{Stated};
+ghost use Rattle.exports.specs.Bits.{bit_settings_of, writer_of, write_leaves, reader_with, reader_of, reader_numbers, read_numbers, read_leaves};
 
 use crate::channel::{link_of, zone_for};
-use crate::lent::{ROOM, leave};
-use arrays::{MOST_COUNT, count_of, entry, flag, keep, octet_of};
+use crate::lent::{ROOM, leave, number};
+use arrays::{MOST_COUNT, count_of, octet_of, put};
 use bitstream::{Reader, Reading, Writer};
 use frames::ZONE_AT;
 use frames::bits::BitSettings;
+use octets::Refusal;
 
-// The entries of the settings, of each record, and of the answer.
-const BIT_SETTINGS_ENTRIES: usize = 6;
-
-const WRITER_ENTRIES: usize = 1;
-
+// The entries of a reader's record, and of its answer.
 const READER_ENTRIES: usize = 3;
 
 const BITS_ENTRIES: usize = 6;
 
-// Whether an array is short: of settings, or of a record or an answer that has so many numbers.
-fn bits_short(settings: usize, record: usize, kept: usize, answer: usize, room: usize) -> bool
-    ensures { result ≡ bits_short settings «record» kept answer room }
+// The settings that an array states; none where it is short.
+#[tactic(auto, unfolding(crate::specs::Bits::bit_settings_of, crate::specs::Channel::link_of))]
+fn bit_settings_of(numbers: &[u64]) -> Option<BitSettings>
+    ensures { Stated 6 bit_settings_of numbers.now result }
 {
-    (settings < BIT_SETTINGS_ENTRIES) | ((record < kept) | (answer < room))
-}
-
-fn bit_settings_of(numbers: &[u64]) -> BitSettings
-    ensures { result ≡ bit_settings_of numbers.now }
-{
-    let fill = entry(numbers, 3);
-    let trailer = entry(numbers, 4);
-    let edition = entry(numbers, 5);
-    let link = link_of(numbers, trailer, edition);
-    BitSettings {
-        link,
-        width: zone_for(entry(numbers, 2), fill, trailer, edition),
+    let [spacecraft, channel, width, fill, trailer, edition] = *numbers.first_chunk::<6>()?;
+    Some(BitSettings {
+        link: link_of(spacecraft, channel, trailer, edition),
+        width: zone_for(width, fill, trailer, edition),
         fill: octet_of(fill),
-    }
+    })
 }
 
-fn writer_of(numbers: &[u64]) -> Writer
-    ensures { result ≡ writer_of numbers.now }
+// The record that an array states; none where it is short.
+#[tactic(auto, unfolding(crate::specs::Bits::writer_of))]
+fn writer_of(numbers: &[u64]) -> Option<Writer>
+    ensures { Stated 1 writer_of numbers.now result }
 {
-    Writer {
-        count: count_of(entry(numbers, 0)),
-    }
+    let [count] = *numbers.first_chunk::<1>()?;
+    Some(Writer {
+        count: count_of(count),
+    })
 }
 
+#[tactic(auto, unfolding(crate::specs::Bits::write_leaves, crate::specs::Bits::bits_short))]
 pub fn itz_bits_write(
     settings: &[u64],
     record: &mut [u64],
@@ -60,99 +53,93 @@ pub fn itz_bits_write(
 ) -> u64
     ensures { left result «record».new frame.new [] ≡ write_leaves settings.now «record».old bits.now n frame.old }
 {
-    if bits_short(settings.len(), record.len(), WRITER_ENTRIES, 0, 0) {
+    let (Some(settings), Some(writer)) = (bit_settings_of(settings), writer_of(record)) else {
         return ROOM;
+    };
+    match bitstream::write(settings, writer, bits, n as usize, frame) {
+        Err(refusal) => number(refusal),
+        Ok(next) => {
+            put(record, &[next.count as u64]);
+            0
+        }
     }
-    let settings = bit_settings_of(settings);
-    let written = bitstream::write(settings, writer_of(record), bits, n as usize, frame);
-    let refusal = written.refusal as u64;
-    let state = [written.writer.count as u64];
-    keep(record, refusal, &state);
-    refusal
 }
 
 // A record that no call reaches.
-fn unread() -> Reader
-    ensures { result ≡ unread }
-{
-    Reader::Last {
-        count: MOST_COUNT,
-        waiting: false,
-    }
-}
+const UNREAD: Reader = Reader::Last {
+    count: MOST_COUNT,
+    waiting: false,
+};
 
 // The record with these numbers; before the first frame there is no last count, and nothing waits.
+#[tactic(auto, unfolding(crate::specs::Bits::reader_with))]
 fn reader_with(kind: u64, last: u32, waiting: u64) -> Reader
     ensures { result ≡ reader_with kind last waiting }
 {
-    if (kind == 1) & (waiting <= 1) {
-        return Reader::Last {
+    match (kind, last, waiting) {
+        (0, 0, 0) => Reader::Fresh,
+        (1, _, 0 | 1) => Reader::Last {
             count: last,
             waiting: waiting == 1,
-        };
+        },
+        _ => UNREAD,
     }
-    if (kind == 0) & ((last == 0) & (waiting == 0)) {
-        return Reader::Fresh;
-    }
-    unread()
 }
 
-fn reader_of(numbers: &[u64]) -> Reader
-    ensures { result ≡ reader_of numbers.now }
+// The record that an array states; none where it is short.
+fn reader_of(numbers: &[u64]) -> Option<Reader>
+    ensures { Stated 3 reader_of numbers.now result }
 {
-    let last = count_of(entry(numbers, 1));
-    let waiting = entry(numbers, 2);
-    reader_with(entry(numbers, 0), last, waiting)
+    let [kind, last, waiting] = *numbers.first_chunk::<READER_ENTRIES>()?;
+    Some(reader_with(kind, count_of(last), waiting))
 }
 
-fn reader_numbers(x: Reader) -> [u64; 3]
+// A record's numbers, as its array has them.
+#[tactic(auto, unfolding(crate::specs::Bits::reader_numbers))]
+fn reader_numbers(x: Reader) -> [u64; READER_ENTRIES]
     ensures { result ≡ reader_numbers x }
 {
     match x {
-        Reader::Fresh => [0; 3],
-        Reader::Last { count, waiting } => [1, count as u64, flag(waiting)],
+        Reader::Fresh => [0; READER_ENTRIES],
+        Reader::Last { count, waiting } => [1, count as u64, u64::from(waiting)],
     }
 }
 
-// Where the octets with the bits lie; 0 on a refusal.
-fn bits_at(refusal: u8) -> u64
-    ensures { result ≡ pick (eqb refusal 0) 8 0 }
+// An answer's refusal, and the numbers behind it.
+#[tactic(auto, using(octets::proofs::ByNumber::refused_not_0), unfolding(crate::specs::Bits::read_numbers, bitstream::specs::Bitstream::leading_octets, bitstream::specs::Bitstream::octets_for))]
+fn read_said(s: BitSettings, frame: &[u8], read: Result<Reading, Refusal>) -> [u64; 7]
+    ensures { (x : Reader) → result ≡ (reads x read).refusal ∷ read_numbers s frame.now (reads x read) }
 {
-    if refusal == 0 { ZONE_AT as u64 } else { 0 }
+    match read {
+        Err(refusal) => [number(refusal), 0, 0, 0, 0, 0, 0],
+        Ok(reading) => [
+            0,
+            reading.count as u64,
+            reading.replay as u64,
+            u64::from(reading.lost),
+            reading.bits as u64,
+            ZONE_AT as u64,
+            bitstream::leading_octets(s, reading.bits, frame).len() as u64,
+        ],
+    }
 }
 
-// The refusal, and the numbers of the answer behind it.
-fn read_said(reading: Reading, size: usize) -> [u64; 7]
-    ensures { (s : BitSettings) (frame : List ℕ) → size ≡ length (leading_octets s reading.bits frame) → result ≡ reading.refusal ∷ read_numbers s frame reading }
-{
-    [
-        reading.refusal as u64,
-        reading.count as u64,
-        reading.replay as u64,
-        flag(reading.lost),
-        reading.bits as u64,
-        bits_at(reading.refusal),
-        size as u64,
-    ]
-}
-
+#[tactic(auto, unfolding(crate::specs::Bits::read_leaves, crate::specs::Bits::bits_short))]
 pub fn itz_bits_read(settings: &[u64], record: &mut [u64], frame: &[u8], answer: &mut [u64]) -> u64
     ensures { left result «record».new [] answer.new ≡ read_leaves settings.now «record».old frame.now answer.old }
 {
-    if bits_short(
-        settings.len(),
-        record.len(),
-        READER_ENTRIES,
-        answer.len(),
-        BITS_ENTRIES,
-    ) {
+    let (Some(settings), Some(reader)) = (bit_settings_of(settings), reader_of(record)) else {
+        return ROOM;
+    };
+    if answer.len() < BITS_ENTRIES {
         return ROOM;
     }
-    let settings = bit_settings_of(settings);
-    let reading = bitstream::read(settings, reader_of(record), frame);
-    let reader = reading.reader;
-    let size = bitstream::leading_octets(settings, reading.bits, frame).len();
-    let state = reader_numbers(reader);
-    let said = read_said(reading, size);
-    leave(record, &state, answer, &said)
+    let read = bitstream::read(settings, reader, frame);
+    let next = read.map_or(reader, |reading| reading.reader);
+    leave(
+        record,
+        &reader_numbers(next),
+        answer,
+        &read_said(settings, frame, read),
+    )
 }

@@ -1,21 +1,10 @@
 // The settings of a packet channel as numbers.
-ghost use Rattle.std.specs.Prelude.{◌≡◌};
-ghost use Rattle.exports.specs.Channel.{short, edition_of, zone_for, link_of, settings_of};
+ghost use Rattle.std.specs.Prelude.{◌≡◌, [], ◌∷◌};
+ghost use Rattle.exports.specs.Stated.{Stated};
+ghost use Rattle.exports.specs.Channel.{edition_of, zone_for, link_of, settings_of};
 
-use arrays::{count_of, entry, octet_of};
+use arrays::{count_of, octet_of};
 use frames::{Edition, Link, Settings};
-
-// The entries of the settings, and of a record.
-const SETTINGS_ENTRIES: usize = 7;
-
-pub(crate) const RECORD_ENTRIES: usize = 4;
-
-// Whether an array is short: of settings, of a record, or of an answer that has so many numbers.
-pub(crate) fn is_short(settings: usize, record: usize, answer: usize, room: usize) -> bool
-    ensures { result ≡ short settings «record» answer room }
-{
-    (settings < SETTINGS_ENTRIES) | ((record < RECORD_ENTRIES) | (answer < room))
-}
 
 // The numbers of the editions; that of 732.0-B-3 with usage 1 is the last.
 const FORMER: u64 = 0;
@@ -25,49 +14,52 @@ const CYCLE_UNUSED: u64 = 1;
 const LAST_EDITION: u64 = 2;
 
 // The edition of a number; of one that is no edition's the last.
+#[tactic(auto, unfolding(crate::specs::Channel::edition_of))]
 fn edition_of(number: u64) -> Edition
     ensures { result ≡ edition_of number }
 {
-    if number == FORMER {
-        return Edition::Former;
+    match number {
+        FORMER => Edition::Former,
+        CYCLE_UNUSED => Edition::CycleUnused,
+        _ => Edition::CycleUsed,
     }
-    if number == CYCLE_UNUSED {
-        return Edition::CycleUnused;
-    }
-    Edition::CycleUsed
 }
 
 // The octets of a zone, none where the fill is no octet, the trailer's number neither 0 nor 1, or the edition's none of the three.
+#[tactic(auto, unfolding(crate::specs::Channel::zone_for))]
 pub(crate) fn zone_for(zone: u64, fill: u64, trailer: u64, edition: u64) -> usize
     ensures { result ≡ zone_for zone fill trailer edition }
 {
-    let said = (fill <= 255) & ((trailer <= 1) & (edition <= LAST_EDITION));
-    if said { zone as usize } else { 0 }
+    if fill <= 255 && trailer <= 1 && edition <= LAST_EDITION {
+        zone as usize
+    } else {
+        0
+    }
 }
 
-// Spacecraft and channel by their numbers, and trailer and edition by their own.
-pub(crate) fn link_of(numbers: &[u64], trailer: u64, edition: u64) -> Link
-    ensures { result ≡ link_of numbers.now trailer edition }
+// The link of a spacecraft and a channel, with trailer and edition by their numbers.
+#[tactic(auto, unfolding(crate::specs::Channel::link_of))]
+pub(crate) fn link_of(spacecraft: u64, channel: u64, trailer: u64, edition: u64) -> Link
+    ensures { result ≡ link_of (spacecraft ∷ channel ∷ []) trailer edition }
 {
     Link {
-        spacecraft: count_of(entry(numbers, 0)),
-        channel: count_of(entry(numbers, 1)),
+        spacecraft: count_of(spacecraft),
+        channel: count_of(channel),
         trailed: trailer == 1,
         edition: edition_of(edition),
     }
 }
 
-pub(crate) fn settings_of(numbers: &[u64]) -> Settings
-    ensures { result ≡ settings_of numbers.now }
+// The settings that an array states; none where it is short.
+#[tactic(auto, unfolding(crate::specs::Channel::settings_of, crate::specs::Channel::link_of))]
+pub(crate) fn settings_of(numbers: &[u64]) -> Option<Settings>
+    ensures { Stated 7 settings_of numbers.now result }
 {
-    let fill = entry(numbers, 4);
-    let trailer = entry(numbers, 5);
-    let edition = entry(numbers, 6);
-    let link = link_of(numbers, trailer, edition);
-    Settings {
-        link,
-        zone: zone_for(entry(numbers, 2), fill, trailer, edition),
-        limit: entry(numbers, 3) as usize,
+    let [spacecraft, channel, zone, limit, fill, trailer, edition] = *numbers.first_chunk::<7>()?;
+    Some(Settings {
+        link: link_of(spacecraft, channel, trailer, edition),
+        zone: zone_for(zone, fill, trailer, edition),
+        limit: limit as usize,
         fill: octet_of(fill),
-    }
+    })
 }

@@ -1,16 +1,20 @@
 // The extractor.
 ghost use Rattle.std.specs.Prelude.{◌≡◌, ℕ, List, [], ◌∷◌, length};
-ghost use Rattle.extractor.specs.Answers.{entered_numbers, packet_or_idle, found_numbers};
+ghost use Rattle.extractor.specs.Answers.{reason_number, reason_damage, enter_says, packet_or_idle, found_numbers, answered};
+ghost use Rattle.extractor.specs.declared.Extractor.{Extractor};
 ghost use Rattle.exports.specs.Left.{left};
-ghost use Rattle.exports.specs.Extract.{unreached, extractor_with, extractor_of, extractor_numbers, enter_numbers, enter_leaves, step_numbers, step_leaves, part_numbers, show_numbers, show_leaves};
+ghost use Rattle.exports.specs.Stated.{Stated};
+ghost use Rattle.exports.specs.Extract.{extractor_with, extractor_of, extractor_numbers, enter_numbers, enter_leaves, step_numbers, step_leaves, part_numbers, show_numbers, show_leaves};
 
-use crate::channel::{is_short, settings_of};
-use crate::lent::{ROOM, leave};
-use arrays::{MOST_COUNT, count_of, entry, put};
-use extractor::{Entered, Extractor, Found};
-use octets::within;
+use crate::channel::settings_of;
+use crate::lent::{ROOM, leave, number};
+use arrays::{MOST_COUNT, count_of, put};
+use extractor::{Entering, Extractor, Found, Move, Reason};
+use octets::{Refusal, within};
 
-// The entries of each answer.
+// The entries of the record, and of each answer.
+const EXTRACTOR_ENTRIES: usize = 4;
+
 const ENTERED_ENTRIES: usize = 7;
 
 const STEP_ENTRIES: usize = 5;
@@ -35,57 +39,38 @@ const IN_FRAME: u64 = 1;
 const IN_STORE: u64 = 2;
 
 // A record that no call reaches.
-fn unreached() -> Extractor
-    ensures { result ≡ unreached }
-{
-    Extractor::Astray { last: MOST_COUNT }
-}
+const UNREACHED: Extractor = Extractor::Astray { last: MOST_COUNT };
 
-// The record of a kind with these numbers, from the kind that uses all of them to the one that uses none; those not used are 0.
+// The record of a kind with these numbers, of which those that the kind does not use are 0.
+#[tactic(auto, unfolding(crate::specs::Extract::extractor_with))]
 fn extractor_with(kind: u64, last: u32, held: usize, at: usize) -> Extractor
     ensures { result ≡ extractor_with kind last held at }
 {
-    if kind == 3 {
-        return Extractor::Walking { last, held, at };
+    match (kind, last, held, at) {
+        (0, 0, 0, 0) => Extractor::Fresh,
+        (1, _, 0, 0) => Extractor::Astray { last },
+        (2, _, _, 0) => Extractor::InStep { last, held },
+        (3, _, _, _) => Extractor::Walking { last, held, at },
+        (4, _, 0, 0) => Extractor::Leaving { last },
+        _ => UNREACHED,
     }
-    if at != 0 {
-        return unreached();
-    }
-    if kind == 2 {
-        return Extractor::InStep { last, held };
-    }
-    if held != 0 {
-        return unreached();
-    }
-    if kind == 1 {
-        return Extractor::Astray { last };
-    }
-    if kind == 4 {
-        return Extractor::Leaving { last };
-    }
-    if last != 0 {
-        return unreached();
-    }
-    if kind == 0 {
-        return Extractor::Fresh;
-    }
-    unreached()
 }
 
-fn extractor_of(numbers: &[u64]) -> Extractor
-    ensures { result ≡ extractor_of numbers.now }
+// The record that an array states; none where it is short.
+fn extractor_of(numbers: &[u64]) -> Option<Extractor>
+    ensures { Stated 4 extractor_of numbers.now result }
 {
-    let last = count_of(entry(numbers, 1));
-    let held = entry(numbers, 2) as usize;
-    let at = entry(numbers, 3) as usize;
-    extractor_with(entry(numbers, 0), last, held, at)
+    let [kind, last, held, at] = *numbers.first_chunk::<EXTRACTOR_ENTRIES>()?;
+    Some(extractor_with(kind, count_of(last), held as usize, at as usize))
 }
 
-fn extractor_numbers(x: Extractor) -> [u64; 4]
+// A record's numbers, as its array has them.
+#[tactic(auto, unfolding(crate::specs::Extract::extractor_numbers))]
+fn extractor_numbers(x: Extractor) -> [u64; EXTRACTOR_ENTRIES]
     ensures { result ≡ extractor_numbers x }
 {
     match x {
-        Extractor::Fresh => [0; 4],
+        Extractor::Fresh => [0; EXTRACTOR_ENTRIES],
         Extractor::Astray { last } => [1, last as u64, 0, 0],
         Extractor::InStep { last, held } => [2, last as u64, held as u64, 0],
         Extractor::Walking { last, held, at } => [3, last as u64, held as u64, at as u64],
@@ -93,25 +78,47 @@ fn extractor_numbers(x: Extractor) -> [u64; 4]
     }
 }
 
+// The number of why octets held are dropped; 0 where they are not.
+fn reason_number(reason: Option<Reason>) -> u64
+    ensures { result ≡ reason_number reason }
+{
+    match reason {
+        None => 0,
+        Some(reason) => reason.number() as u64,
+    }
+}
+
+// The number of what is wrong with their header; 0 where they are dropped for something else.
+fn reason_damage(reason: Option<Reason>) -> u64
+    ensures { result ≡ reason_damage reason }
+{
+    match reason {
+        Some(Reason::HeaderDamaged(damage)) => damage.number() as u64,
+        _ => 0,
+    }
+}
+
 // An answer's refusal, and the numbers behind it.
-fn entered_said(entered: Entered) -> [u64; 8]
-    ensures { result ≡ (entered_numbers entered).refusal ∷ enter_numbers (entered_numbers entered) }
+#[tactic(auto, unfolding(crate::specs::Extract::enter_numbers, extractor::specs::Answers::entered_numbers))]
+fn entered_said(entered: Result<Entering, Refusal>) -> [u64; 8]
+    ensures { (x : Extractor) → result ≡ (enter_says x entered).answer.refusal ∷ enter_numbers (enter_says x entered).answer }
 {
     match entered {
-        Entered::Refused { refusal } => [refusal as u64, 0, 0, 0, 0, 0, 0, 0],
-        Entered::Taken { entry } => [
+        Err(refusal) => [number(refusal), 0, 0, 0, 0, 0, 0, 0],
+        Ok(Entering { entry, .. }) => [
             0,
             ENTERED,
             entry.count as u64,
             entry.replay as u64,
             entry.lost as u64,
             entry.dropped as u64,
-            entry.reason as u64,
-            entry.damage as u64,
+            reason_number(entry.reason),
+            reason_damage(entry.reason),
         ],
     }
 }
 
+#[tactic(auto, unfolding(crate::specs::Extract::enter_leaves, crate::specs::Channel::short))]
 pub fn itz_extractor_enter(
     settings: &[u64],
     record: &mut [u64],
@@ -121,15 +128,20 @@ pub fn itz_extractor_enter(
 ) -> u64
     ensures { left result «record».new [] answer.new ≡ enter_leaves settings.now «record».old store.now frame.now answer.old }
 {
-    if is_short(settings.len(), record.len(), answer.len(), ENTERED_ENTRIES) {
+    let (Some(settings), Some(x)) = (settings_of(settings), extractor_of(record)) else {
+        return ROOM;
+    };
+    if answer.len() < ENTERED_ENTRIES {
         return ROOM;
     }
-    let entering = extractor::enter(settings_of(settings), extractor_of(record), store, frame);
-    let entered = entering.entered;
-    let next = entering.next;
-    let said = entered_said(entered);
-    let state = extractor_numbers(next);
-    leave(record, &state, answer, &said)
+    let entered = extractor::enter(settings, x, store, frame);
+    let next = entered.map_or(x, |entering| entering.next);
+    leave(
+        record,
+        &extractor_numbers(next),
+        answer,
+        &entered_said(entered),
+    )
 }
 
 // What a packet is.
@@ -139,12 +151,14 @@ fn packet_number(idle: bool) -> u64
     if idle { IDLE } else { PACKET }
 }
 
-fn step_said(found: Found) -> [u64; 6]
-    ensures { (frame store : List ℕ) → result ≡ (found_numbers frame store found).refusal ∷ step_numbers (found_numbers frame store found) }
+// The refusal of a step, and the numbers behind it.
+#[tactic(auto, unfolding(crate::specs::Extract::step_numbers, extractor::specs::Answers::found_numbers))]
+fn step_said(step: Result<Move, Refusal>) -> [u64; 6]
+    ensures { (frame store : List ℕ) → result ≡ (found_numbers frame store (answered step)).refusal ∷ step_numbers (found_numbers frame store (answered step)) }
 {
-    match found {
-        Found::Refused { refusal } => [refusal as u64, 0, 0, 0, 0, 0],
-        Found::InFrame { start, size, idle } => {
+    match step.map(|step| step.found) {
+        Err(refusal) => [number(refusal), 0, 0, 0, 0, 0],
+        Ok(Found::InFrame { start, size, idle }) => {
             [
                 0,
                 packet_number(idle),
@@ -154,12 +168,15 @@ fn step_said(found: Found) -> [u64; 6]
                 0,
             ]
         }
-        Found::InStore { size, idle } => [0, packet_number(idle), IN_STORE, 0, size as u64, 0],
-        Found::Damaged { damage } => [0, DAMAGED, 0, 0, 0, damage as u64],
-        Found::Spent => [0, SPENT, 0, 0, 0, 0],
+        Ok(Found::InStore { size, idle }) => {
+            [0, packet_number(idle), IN_STORE, 0, size as u64, 0]
+        }
+        Ok(Found::Damaged(damage)) => [0, DAMAGED, 0, 0, 0, damage.number() as u64],
+        Ok(Found::Spent) => [0, SPENT, 0, 0, 0, 0],
     }
 }
 
+#[tactic(auto, unfolding(crate::specs::Extract::step_leaves, crate::specs::Channel::short))]
 pub fn itz_extractor_step(
     settings: &[u64],
     record: &mut [u64],
@@ -169,51 +186,52 @@ pub fn itz_extractor_step(
 ) -> u64
     ensures { left result «record».new store.new answer.new ≡ step_leaves settings.now «record».old store.old frame.now answer.old }
 {
-    if is_short(settings.len(), record.len(), answer.len(), STEP_ENTRIES) {
+    let (Some(settings), Some(x)) = (settings_of(settings), extractor_of(record)) else {
+        return ROOM;
+    };
+    if answer.len() < STEP_ENTRIES {
         return ROOM;
     }
-    let moved = extractor::step(settings_of(settings), extractor_of(record), store, frame);
-    let found = moved.found;
-    let next = moved.next;
-    let said = step_said(found);
-    let state = extractor_numbers(next);
-    leave(record, &state, answer, &said)
+    let step = extractor::step(settings, x, store, frame);
+    let next = step.map_or(x, |step| step.next);
+    leave(record, &extractor_numbers(next), answer, &step_said(step))
 }
 
 // A part of a buffer of so many octets at this place; all 0 where it would run past the end.
-fn part_numbers(place: u64, room: usize, start: u64, size: u64) -> [u64; 3]
+#[tactic(auto, unfolding(crate::specs::Extract::part_numbers))]
+fn part_numbers(place: u64, room: usize, start: u64, size: u64) -> [u64; SHOWN_ENTRIES]
     ensures { result ≡ part_numbers place room start size }
 {
     if within(room, start as usize, size as usize) {
         [place, start, size]
     } else {
-        [0; 3]
+        [0; SHOWN_ENTRIES]
     }
 }
 
 // The part that a step's answer names.
-fn show_numbers(step: &[u64], frame: usize, store: usize) -> [u64; 3]
+#[tactic(auto, unfolding(crate::specs::Extract::show_numbers))]
+fn show_numbers(step: &[u64; STEP_ENTRIES], frame: usize, store: usize) -> [u64; SHOWN_ENTRIES]
     ensures { (f os : List ℕ) → frame ≡ length f → store ≡ length os → result ≡ show_numbers step.now f os }
 {
-    let place = entry(step, 1);
-    let start = entry(step, 2);
-    let size = entry(step, 3);
-    if place == IN_FRAME {
-        return part_numbers(IN_FRAME, frame, start, size);
+    let [_, place, start, size, _] = *step;
+    match place {
+        IN_FRAME => part_numbers(IN_FRAME, frame, start, size),
+        IN_STORE => part_numbers(IN_STORE, store, start, size),
+        _ => [0; SHOWN_ENTRIES],
     }
-    if place == IN_STORE {
-        return part_numbers(IN_STORE, store, start, size);
-    }
-    [0; 3]
 }
 
+#[tactic(auto, unfolding(crate::specs::Extract::show_leaves, crate::specs::Extract::show_numbers))]
 pub fn itz_show(step: &[u64], frame: &[u8], store: &[u8], answer: &mut [u64]) -> u64
     ensures { left result [] [] answer.new ≡ show_leaves step.now frame.now store.now answer.old }
 {
-    if (step.len() < STEP_ENTRIES) | (answer.len() < SHOWN_ENTRIES) {
+    let Some(step) = step.first_chunk::<STEP_ENTRIES>() else {
+        return ROOM;
+    };
+    if answer.len() < SHOWN_ENTRIES {
         return ROOM;
     }
-    let numbers = show_numbers(step, frame.len(), store.len());
-    put(answer, &numbers);
+    put(answer, &show_numbers(step, frame.len(), store.len()));
     0
 }

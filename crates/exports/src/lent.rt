@@ -1,12 +1,33 @@
 // What a call leaves in the arrays that were lent to it.
 ghost use Rattle.std.specs.Prelude.{◌≡◌, ◌≤◌, [], length, get_or, drop};
+ghost use Rattle.octets.specs.Refusals.{number_of};
+ghost use Rattle.packets.specs.Damage.{damage_or_0};
 ghost use Rattle.arrays.specs.Arrays.{told, kept};
 ghost use Rattle.exports.specs.Left.{left};
 
 use arrays::{keep, put};
+use octets::{Refusal, refusals};
+use packets::Damage;
 
 // The refusal of an array that is short.
-pub(crate) const ROOM: u64 = octets::refusals::ROOM as u64;
+pub(crate) const ROOM: u64 = refusals::ROOM as u64;
+
+// The number of a refusal.
+pub(crate) fn number(refusal: Refusal) -> u64
+    ensures { result ≡ number_of refusal }
+{
+    refusal.number() as u64
+}
+
+// The number of what is wrong with a header; 0 where nothing is.
+pub(crate) fn damage_number(damage: Option<Damage>) -> u64
+    ensures { result ≡ damage_or_0 damage }
+{
+    match damage {
+        None => 0,
+        Some(damage) => damage.number() as u64,
+    }
+}
 
 // Writes an answer whose numbers stand behind its refusal, and hands the refusal on.
 pub(crate) fn tell(answer: &mut [u64], said: &[u64]) -> u64

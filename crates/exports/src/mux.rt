@@ -1,16 +1,21 @@
 // The multiplexer.
 ghost use Rattle.std.specs.Prelude.{◌≡◌, ℕ, List, [], ◌∷◌};
 ghost use Rattle.octets.specs.Basics.{pick};
-ghost use Rattle.multiplexer.specs.Calls.{to_put, to_flush, to_idle, answers};
+ghost use Rattle.multiplexer.specs.Calls.{to_put, to_flush, to_idle, answers, answers_alone};
 ghost use Rattle.exports.specs.Left.{left};
+ghost use Rattle.exports.specs.Stated.{Stated};
 ghost use Rattle.exports.specs.Mux.{mux_of, mux_numbers, begin_leaves, put_numbers, flush_numbers, no_numbers, mux_leaves};
 
-use crate::channel::{RECORD_ENTRIES, is_short, settings_of};
-use crate::lent::{ROOM, leave};
-use arrays::{count_of, entry, flag, keep, put};
-use multiplexer::{Mux, Reply};
+use crate::channel::settings_of;
+use crate::lent::{ROOM, damage_number, leave, number};
+use arrays::{count_of, put};
+use multiplexer::{Done, Mux};
+use octets::Refusal;
+use packets::Refused;
 
-// The entries of each answer.
+// The entries of the record, and of each answer.
+const MUX_ENTRIES: usize = 4;
+
 const PUT_ENTRIES: usize = 3;
 
 const FLUSH_ENTRIES: usize = 1;
@@ -20,18 +25,23 @@ const NOTHING: u64 = 1;
 
 const FRAME: u64 = 2;
 
-fn mux_of(numbers: &[u64]) -> Mux
-    ensures { result ≡ mux_of numbers.now }
+// The record that an array states; none where it is short.
+#[tactic(auto, unfolding(crate::specs::Mux::mux_of))]
+fn mux_of(numbers: &[u64]) -> Option<Mux>
+    ensures { Stated 4 mux_of numbers.now result }
 {
-    Mux {
-        count: count_of(entry(numbers, 0)),
-        filled: entry(numbers, 1) as usize,
-        first: entry(numbers, 2) as usize,
-        taken: entry(numbers, 3) as usize,
-    }
+    let [count, filled, first, taken] = *numbers.first_chunk::<MUX_ENTRIES>()?;
+    Some(Mux {
+        count: count_of(count),
+        filled: filled as usize,
+        first: first as usize,
+        taken: taken as usize,
+    })
 }
 
-fn mux_numbers(m: Mux) -> [u64; 4]
+// A record's numbers, as its array has them.
+#[tactic(auto, unfolding(crate::specs::Mux::mux_numbers))]
+fn mux_numbers(m: Mux) -> [u64; MUX_ENTRIES]
     ensures { result ≡ mux_numbers m }
 {
     [
@@ -42,38 +52,25 @@ fn mux_numbers(m: Mux) -> [u64; 4]
     ]
 }
 
+#[tactic(auto, unfolding(crate::specs::Mux::begin_leaves))]
 pub fn itz_mux_begin(record: &mut [u64]) -> u64
     ensures { left result «record».new [] [] ≡ begin_leaves «record».old }
 {
-    if record.len() < RECORD_ENTRIES {
+    if record.len() < MUX_ENTRIES {
         return ROOM;
     }
-    let numbers = mux_numbers(multiplexer::begin());
-    put(record, &numbers);
+    put(record, &mux_numbers(multiplexer::begin()));
     0
 }
 
-// The record to go on with.
-fn next_mux(reply: Reply) -> [u64; 4]
-    ensures { (frame : List ℕ) → result ≡ mux_numbers (answers reply frame).mux }
-{
-    match reply {
-        Reply::Refused { mux, .. } => mux_numbers(mux),
-        Reply::Done { mux, .. } => mux_numbers(mux),
-    }
-}
-
 // The refusal, and the numbers of a put's answer behind it.
-fn put_said(reply: Reply) -> [u64; 4]
-    ensures { (frame : List ℕ) → result ≡ (answers reply frame).refusal ∷ put_numbers (answers reply frame) }
+#[tactic(auto, unfolding(crate::specs::Mux::put_numbers, multiplexer::specs::Calls::answers))]
+fn put_said(done: Result<Done, Refused>) -> [u64; 4]
+    ensures { (m : Mux) (frame : List ℕ) → result ≡ (answers m done frame).refusal ∷ put_numbers (answers m done frame) }
 {
-    match reply {
-        Reply::Refused {
-            refusal,
-            damage,
-            ..
-        } => [refusal as u64, 0, 0, damage as u64],
-        Reply::Done { full, taken, .. } => [0, flag(full), flag(taken), 0],
+    match done {
+        Err(Refused { refusal, damage }) => [number(refusal), 0, 0, damage_number(damage)],
+        Ok(Done { full, taken, .. }) => [0, u64::from(full), u64::from(taken), 0],
     }
 }
 
@@ -85,15 +82,17 @@ fn flush_number(full: bool) -> u64
 }
 
 // The refusal, and the number of a flush's answer behind it.
-fn flush_said(reply: Reply) -> [u64; 2]
-    ensures { (frame : List ℕ) → result ≡ (answers reply frame).refusal ∷ flush_numbers (answers reply frame) }
+#[tactic(auto, unfolding(crate::specs::Mux::flush_numbers, multiplexer::specs::Calls::answers_alone))]
+fn flush_said(done: Result<Done, Refusal>) -> [u64; 2]
+    ensures { (m : Mux) (frame : List ℕ) → result ≡ (answers_alone m done frame).refusal ∷ flush_numbers (answers_alone m done frame) }
 {
-    match reply {
-        Reply::Refused { refusal, .. } => [refusal as u64, 0],
-        Reply::Done { full, .. } => [0, flush_number(full)],
+    match done {
+        Err(refusal) => [number(refusal), 0],
+        Ok(Done { full, .. }) => [0, flush_number(full)],
     }
 }
 
+#[tactic(auto, unfolding(crate::specs::Mux::mux_leaves, crate::specs::Channel::short, multiplexer::specs::Calls::answers))]
 pub fn itz_mux_put(
     settings: &[u64],
     record: &mut [u64],
@@ -103,15 +102,18 @@ pub fn itz_mux_put(
 ) -> u64
     ensures { left result «record».new frame.new answer.new ≡ mux_leaves (to_put packet.now) 3 put_numbers settings.now «record».old frame.old answer.old }
 {
-    if is_short(settings.len(), record.len(), answer.len(), PUT_ENTRIES) {
+    let (Some(settings), Some(mux)) = (settings_of(settings), mux_of(record)) else {
+        return ROOM;
+    };
+    if answer.len() < PUT_ENTRIES {
         return ROOM;
     }
-    let reply = multiplexer::put(settings_of(settings), mux_of(record), packet, frame);
-    let state = next_mux(reply);
-    let said = put_said(reply);
-    leave(record, &state, answer, &said)
+    let done = multiplexer::put(settings, mux, packet, frame);
+    let next = done.map_or(mux, |done| done.mux);
+    leave(record, &mux_numbers(next), answer, &put_said(done))
 }
 
+#[tactic(auto, unfolding(crate::specs::Mux::mux_leaves, crate::specs::Channel::short, multiplexer::specs::Calls::answers_alone))]
 pub fn itz_mux_flush(
     settings: &[u64],
     record: &mut [u64],
@@ -120,24 +122,29 @@ pub fn itz_mux_flush(
 ) -> u64
     ensures { left result «record».new frame.new answer.new ≡ mux_leaves to_flush 1 flush_numbers settings.now «record».old frame.old answer.old }
 {
-    if is_short(settings.len(), record.len(), answer.len(), FLUSH_ENTRIES) {
+    let (Some(settings), Some(mux)) = (settings_of(settings), mux_of(record)) else {
+        return ROOM;
+    };
+    if answer.len() < FLUSH_ENTRIES {
         return ROOM;
     }
-    let reply = multiplexer::flush(settings_of(settings), mux_of(record), frame);
-    let state = next_mux(reply);
-    let said = flush_said(reply);
-    leave(record, &state, answer, &said)
+    let done = multiplexer::flush(settings, mux, frame);
+    let next = done.map_or(mux, |done| done.mux);
+    leave(record, &mux_numbers(next), answer, &flush_said(done))
 }
 
+#[tactic(auto, unfolding(crate::specs::Mux::mux_leaves, crate::specs::Channel::short, multiplexer::specs::Calls::answers_alone, octets::specs::Basics::laid, octets::specs::Basics::over))]
 pub fn itz_mux_idle(settings: &[u64], record: &mut [u64], frame: &mut [u8]) -> u64
     ensures { left result «record».new frame.new [] ≡ mux_leaves to_idle 0 no_numbers settings.now «record».old frame.old [] }
 {
-    if is_short(settings.len(), record.len(), 0, 0) {
+    let (Some(settings), Some(mux)) = (settings_of(settings), mux_of(record)) else {
         return ROOM;
+    };
+    match multiplexer::idle_zone(settings, mux, frame) {
+        Err(refusal) => number(refusal),
+        Ok(done) => {
+            put(record, &mux_numbers(done.mux));
+            0
+        }
     }
-    let reply = multiplexer::idle_zone(settings_of(settings), mux_of(record), frame);
-    let state = next_mux(reply);
-    let refusal = put_said(reply)[0];
-    keep(record, refusal, &state);
-    refusal
 }

@@ -7,11 +7,10 @@ ghost use Rattle.packets.specs.Unwrap.{unwraps};
 ghost use Rattle.exports.specs.Left.{left};
 ghost use Rattle.exports.specs.Packet.{kind_number, header_numbers, header_leaves, formed_leaves, wrap_numbers, wrap_leaves, unwrap_numbers, unwrap_leaves, unit_numbers, unit_leaves};
 
-use crate::lent::{ROOM, tell};
-use arrays::{entry, flag, octet_of, put};
-use octets::within;
-use packets::{Header, Kind, Unwrapped};
-use wrapping::Wrapped;
+use crate::lent::{ROOM, damage_number, number, tell};
+use arrays::{octet_of, put};
+use octets::{Refusal, within};
+use packets::{Header, Kind, Refused, Unit};
 
 // The entries of each answer.
 const HEADER_ENTRIES: usize = 7;
@@ -41,6 +40,8 @@ const FORMED: u64 = 1;
 
 const NOT_FORMED: u64 = 2;
 
+// The number of a kind of packet.
+#[tactic(auto, unfolding(crate::specs::Packet::kind_number, packets::specs::Header::version_of))]
 fn kind_number(kind: Kind) -> u64
     ensures { result ≡ kind_number (version_of kind) }
 {
@@ -50,14 +51,18 @@ fn kind_number(kind: Kind) -> u64
     }
 }
 
-// An answer's refusal, and the numbers behind it; so for the others below.
-fn header_said(header: Header) -> [u64; 8]
-    ensures { result ≡ (answer header).refusal ∷ header_numbers (answer header) }
+// An answer's refusal, and the numbers behind it.
+#[tactic(auto, unfolding(crate::specs::Packet::header_numbers, packets::specs::Header::answer))]
+fn header_said(read: Result<Header, Refusal>) -> [u64; 8]
+    ensures { result ≡ (answer read).refusal ∷ header_numbers (answer read) }
 {
+    let header = match read {
+        Ok(header) => header,
+        Err(refusal) => return [number(refusal), 0, 0, 0, 0, 0, 0, 0],
+    };
     match header {
-        Header::Refused { refusal } => [refusal as u64, 0, 0, 0, 0, 0, 0, 0],
         Header::More => [0, MORE, 0, 0, 0, 0, 0, 0],
-        Header::Damaged { damage } => [0, DAMAGED, 0, 0, 0, 0, 0, damage as u64],
+        Header::Damaged(damage) => [0, DAMAGED, 0, 0, 0, 0, 0, damage.number() as u64],
         Header::Whole {
             kind,
             key,
@@ -68,7 +73,7 @@ fn header_said(header: Header) -> [u64; 8]
             0,
             WHOLE,
             kind_number(kind),
-            flag(idle),
+            u64::from(idle),
             key as u64,
             size as u64,
             total as u64,
@@ -77,14 +82,17 @@ fn header_said(header: Header) -> [u64; 8]
     }
 }
 
+#[tactic(auto, unfolding(crate::specs::Packet::header_leaves))]
 pub fn itz_read_header(limit: u64, front: &[u8], answer: &mut [u64]) -> u64
     ensures { left result [] [] answer.new ≡ header_leaves limit front.now answer.old }
 {
     if answer.len() < HEADER_ENTRIES {
         return ROOM;
     }
-    let said = header_said(packets::read_header(limit as usize, front));
-    tell(answer, &said)
+    tell(
+        answer,
+        &header_said(packets::read_header(limit as usize, front)),
+    )
 }
 
 // What a packet is; 0 where the limit is refused.
@@ -97,6 +105,7 @@ fn formed_number(refusal: u64, formed: bool) -> u64
     if formed { FORMED } else { NOT_FORMED }
 }
 
+#[tactic(auto, unfolding(crate::specs::Packet::formed_leaves, crate::specs::Packet::formed_numbers, packets::specs::Header::reading, packets::specs::Header::told))]
 pub fn itz_well_formed(limit: u64, packet: &[u8], answer: &mut [u64]) -> u64
     ensures { left result [] [] answer.new ≡ formed_leaves limit packet.now answer.old }
 {
@@ -105,20 +114,22 @@ pub fn itz_well_formed(limit: u64, packet: &[u8], answer: &mut [u64]) -> u64
     }
     let refusal = header_said(packets::read_header(limit as usize, packet))[0];
     let formed = packets::well_formed(limit as usize, packet);
-    let numbers = [formed_number(refusal, formed)];
-    put(answer, &numbers);
+    put(answer, &[formed_number(refusal, formed)]);
     refusal
 }
 
-fn wrapped_said(wrapped: Wrapped) -> [u64; 3]
+// The refusal of a wrapping, and the numbers behind it.
+#[tactic(auto, unfolding(crate::specs::Packet::wrap_numbers, wrapping::specs::Wrap::wraps))]
+fn wrapped_said(wrapped: Result<usize, Refusal>) -> [u64; 3]
     ensures { (packet : List ℕ) → result ≡ (wraps wrapped packet).refusal ∷ wrap_numbers (wraps wrapped packet) }
 {
     match wrapped {
-        Wrapped::Refused { refusal, damage } => [refusal as u64, 0, damage as u64],
-        Wrapped::Total { total } => [0, total as u64, 0],
+        Err(refusal) => [number(refusal), 0, 0],
+        Ok(total) => [0, total as u64, 0],
     }
 }
 
+#[tactic(auto, using(crate::proofs::Wraps::wrapping_cut), unfolding(crate::specs::Packet::wrap_leaves, wrapping::specs::Wrap::wraps))]
 pub fn itz_wrap(
     limit: u64,
     protocol: u64,
@@ -134,61 +145,66 @@ pub fn itz_wrap(
     }
     let protocol = octet_of(protocol);
     let extension = octet_of(extension);
-    let said = wrapped_said(wrapping::wrap(limit as usize, protocol, extension, data, packet));
-    tell(answer, &said)
+    tell(
+        answer,
+        &wrapped_said(wrapping::wrap(limit as usize, protocol, extension, data, packet)),
+    )
 }
 
-fn unwrapped_said(unwrapped: Unwrapped) -> [u64; 6]
+// The refusal of an unwrapping, and the numbers behind it.
+#[tactic(auto, unfolding(crate::specs::Packet::unwrap_numbers, packets::specs::Unwrap::unwraps))]
+fn unwrapped_said(unwrapped: Result<Unit, Refused>) -> [u64; 6]
     ensures { result ≡ (unwraps unwrapped).refusal ∷ unwrap_numbers (unwraps unwrapped) }
 {
     match unwrapped {
-        Unwrapped::Refused { refusal, damage } => [refusal as u64, 0, 0, 0, 0, damage as u64],
-        Unwrapped::Unit {
-            protocol,
-            extension,
-            start,
-            size,
-        } => [
+        Err(Refused { refusal, damage }) => [number(refusal), 0, 0, 0, 0, damage_number(damage)],
+        Ok(unit) => [
             0,
-            protocol as u64,
-            extension as u64,
-            start as u64,
-            size as u64,
+            unit.protocol as u64,
+            unit.extension as u64,
+            unit.start as u64,
+            unit.size as u64,
             0,
         ],
     }
 }
 
+#[tactic(auto, unfolding(crate::specs::Packet::unwrap_leaves))]
 pub fn itz_unwrap(limit: u64, packet: &[u8], answer: &mut [u64]) -> u64
     ensures { left result [] [] answer.new ≡ unwrap_leaves limit packet.now answer.old }
 {
     if answer.len() < UNWRAPPED_ENTRIES {
         return ROOM;
     }
-    let said = unwrapped_said(packets::unwrap(limit as usize, packet));
-    tell(answer, &said)
+    tell(
+        answer,
+        &unwrapped_said(packets::unwrap(limit as usize, packet)),
+    )
 }
 
-// Where the data unit of such an answer lies in a packet of so many octets.
-fn unit_numbers(unwrapped: &[u64], room: usize) -> [u64; 2]
+// Where the data unit of an unwrapping's answer lies in a packet of so many octets.
+#[tactic(auto, unfolding(crate::specs::Packet::unit_numbers))]
+fn unit_numbers(unwrapped: &[u64; UNWRAPPED_ENTRIES], room: usize) -> [u64; UNIT_ENTRIES]
     ensures { (packet : List ℕ) → room ≡ length packet → result ≡ unit_numbers unwrapped.now packet }
 {
-    let start = entry(unwrapped, 2);
-    let size = entry(unwrapped, 3);
+    let [_, _, start, size, _] = *unwrapped;
     if within(room, start as usize, size as usize) {
         [start, size]
     } else {
-        [0; 2]
+        [0; UNIT_ENTRIES]
     }
 }
 
+#[tactic(auto, unfolding(crate::specs::Packet::unit_leaves, crate::specs::Packet::unit_numbers))]
 pub fn itz_unit_part(unwrapped: &[u64], packet: &[u8], answer: &mut [u64]) -> u64
     ensures { left result [] [] answer.new ≡ unit_leaves unwrapped.now packet.now answer.old }
 {
-    if (unwrapped.len() < UNWRAPPED_ENTRIES) | (answer.len() < UNIT_ENTRIES) {
+    let Some(unwrapped) = unwrapped.first_chunk::<UNWRAPPED_ENTRIES>() else {
+        return ROOM;
+    };
+    if answer.len() < UNIT_ENTRIES {
         return ROOM;
     }
-    let numbers = unit_numbers(unwrapped, packet.len());
-    put(answer, &numbers);
+    put(answer, &unit_numbers(unwrapped, packet.len()));
     0
 }

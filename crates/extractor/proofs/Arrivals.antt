@@ -2,22 +2,32 @@
 -- Assumes nothing.
 use mathlib.Core.Path.{◌≡◌, refl, sym, ap, ◌∙◌}
 use mathlib.Core.List.{List, ◌++◌}
-use mathlib.Core.Bool.{true, false}
+use mathlib.Core.Bool.{Bool, true, false}
 use Prim.Native.Nat.{ℕ, ◌≤◌}
 use lib.ListN.{length, take}
 use lib.Seq.{length-take-le}
-use borrow.Author.Tests.{eq-eqb, ne_eqb}
+use lib.Dec.{eqb}
+use Rattle.std.specs.Prelude.{is_some, unwrap_or, Option, None, Some, Ok}
+use Rattle.std.specs.Bool.{then_some}
+use borrow.Author.Tests.{ne_eqb}
+use Rattle.octets.specs.Basics.{pick}
 use Rattle.octets.proofs.Choices.{apart}
+use Rattle.octets.proofs.Tests.{test}
 use Rattle.packets.specs.Packet.{look, damage_in}
-use Rattle.frames.specs.Frame.{count, replay, pointer}
+use Rattle.frames.specs.Frame.{zone_of, count, replay, pointer, heading}
 use Rattle.frames.specs.declared.Settings.{Settings}
-use Rattle.extractor.specs.Extract.{astray, in_step, held_of, lost_since, reason_in, reason_of, damage_of, step_of, take_in}
+use Rattle.frames.specs.Shape.{Heading, tells}
+use Rattle.frames.specs.declared.Heading as read
+use Rattle.frames.proofs.Accepted.{accepted_heading}
+use Rattle.extractor.specs.Extract.{astray, in_step, agreed, reason_by, held_of, lost_since, reason_in, reason_of, damage_of, step_of, take_in}
 use Rattle.extractor.specs.Records.{last_count, step_in, is_in_step, held_in, stands_for, set_off, set_out, enter}
-use Rattle.extractor.specs.Answers.{EnterSaid, entered_as}
+use Rattle.extractor.specs.Answers.{reason_number, reason_damage, entered_numbers, EnterSaid, entering_says, entered_as}
+use Rattle.extractor.specs.Walks.{Named, damage_by, reason_for}
+use Rattle.extractor.specs.declared.Reason.{Reason}
+use Rattle.extractor.specs.declared.Entering.{Entering}
 use Rattle.extractor.specs.declared.Extractor.{Extractor}
 use Rattle.extractor.specs.declared.Extractor.TheVariants.{Fresh, Astray, InStep, Walking, Leaving}
 use Rattle.extractor.proofs.Unrefused.{Arrives, held_fits}
-use Rattle.extractor.proofs.Steps.{left, zone_left}
 
 -- ---- the step that a record is in
 
@@ -50,23 +60,17 @@ set_out_is s c p store (InStep last n) h = ap (set_off s c p true) (length-take-
 set_out_is s c p store (Walking last n at) h = ap (set_off s c p true) (length-take-le n store h)
 set_out_is s c p store (Leaving last) h = refl
 
--- ---- the reason
+-- what the code sets out from: in step with so many octets held, or out of step
+pub set_off_is : (s : Settings) (c p : ℕ) (x : Extractor)
+    → set_off s c p (is_some (then_some (is_in_step x) (held_in x))) (unwrap_or (then_some (is_in_step x) (held_in x)) 0)
+    ≡ set_off s c p (is_in_step x) (held_in x)
+set_off_is s c p Fresh = refl
+set_off_is s c p (Astray last) = refl
+set_off_is s c p (InStep last h) = refl
+set_off_is s c p (Walking last h at) = refl
+set_off_is s c p (Leaving last) = refl
 
-module _ (s : Settings) (x : Extractor) (store f : List ℕ) (lost : ℕ) (counted : lost ≡ lost_since s (last_count x) (count s f)) where
-  pub lost_reason : (lost ≡ 0 → ⊥) → 1 ≡ reason_of s (stands_for store x) f
-  unfolding reason_of stands_for
-  lost_reason some = rw (← counted, ne_eqb lost 0 some) refl
-
-  pub astray_reason : lost ≡ 0 → is_in_step x ≡ false → 0 ≡ reason_of s (stands_for store x) f
-  unfolding reason_of reason_in stands_for
-  astray_reason none out = rw (← counted, eq-eqb lost 0 none, astray_is store x out) refl
-
-  pub held_reason : (r : ℕ) → lost ≡ 0 → is_in_step x ≡ true → r ≡ reason_in s (in_step (take (held_in x) store)) f
-      → r ≡ reason_of s (stands_for store x) f
-  unfolding reason_of stands_for
-  held_reason r none inside e = rw (← counted, eq-eqb lost 0 none, in_step_is store x inside) e
-
--- ---- what is wrong with the header of the octets held
+-- ---- the reason, and what is wrong with the header of the octets held
 
 held_octets : (store : List ℕ) (x : Extractor) → held_of (step_in store x) ≡ take (held_in x) store
 held_octets store Fresh = refl
@@ -75,15 +79,29 @@ held_octets store (InStep last h) = refl
 held_octets store (Walking last h at) = refl
 held_octets store (Leaving last) = refl
 
-module _ (s : Settings) (x : Extractor) (store f : List ℕ) {reason : ℕ} (reasoned : reason ≡ reason_of s (stands_for store x) f) where
-  pub other_reason : (reason ≡ 3 → ⊥) → 0 ≡ damage_of s (stands_for store x) f
-  unfolding damage_of
-  other_reason h = rw (← reasoned, ne_eqb reason 3 h) refl
+module _ (s : Settings) (x : Extractor) (store f : List ℕ) where
+  -- the reason of the step that the record is in
+  abbrev its_reason : Bool → ℕ
+  its_reason inside = pick inside (reason_by (pointer s f) (agreed s (take (held_in x) store) (zone_of s f))) 0
 
-  pub damage_reason : reason ≡ 3 → {d : ℕ} → d ≡ damage_in (look s.limit (take (held_in x) store ++ left s 0 f))
-      → d ≡ damage_of s (stands_for store x) f
+  reason_within : its_reason (is_in_step x) ≡ reason_in s (step_in store x) f
+  unfolding reason_in
+  reason_within =
+      test (is_in_step x)
+      (λ t. rw (t, in_step_is store x t) refl)
+      (λ t. rw (t, astray_is store x t) refl)
+
+  pub reason_is : {lost p reason : ℕ} → lost ≡ lost_since s (last_count x) (count s f) → p ≡ pointer s f
+      → reason ≡ pick (eqb lost 0) (pick (is_in_step x) (reason_by p (agreed s (take (held_in x) store) (zone_of s f))) 0) 1
+      → reason ≡ reason_of s (stands_for store x) f
+  unfolding reason_of stands_for
+  reason_is l q e = rw (e, l, q, reason_within) refl
+
+  pub damage_is : {reason damage : ℕ} → reason ≡ reason_of s (stands_for store x) f
+      → damage ≡ pick (eqb reason 3) (damage_in (look s.limit (take (held_in x) store ++ zone_of s f))) 0
+      → damage ≡ damage_of s (stands_for store x) f
   unfolding damage_of stands_for
-  damage_reason h e = rw (← reasoned, eq-eqb reason 3 h, held_octets store x, zone_left s 0 f) e
+  damage_is r e = rw (e, r, held_octets store x) refl
 
 -- ---- what is said
 
@@ -112,3 +130,53 @@ module _ {s : Settings} {x : Extractor} {store f : List ℕ} (a : Arrives s x st
   unfolding take_in enter step_of stands_for
   all_dropped dropped next held some set =
       rw (held, set, missed, counted, replayed, pointed, named, reasoned, ne_eqb _ 0 (λ e. some (reasoned ∙ e)), length-held store x fits) refl
+
+-- a frame that is taken, and the record after it
+abbrev pub answered : read.Heading → ℕ → ℕ → Option Reason → Extractor → Entering
+answered h lost dropped reason next =
+    record { entry = record { count = h.count; replay = h.replay; lost = lost; dropped = dropped; reason = reason }; next = next }
+
+-- the same by what the calls of the code give
+module _ {s : Settings} {x : Extractor} {store f : List ℕ} (a : Arrives s x store f) (h : read.Heading) (says : tells (Ok h) ≡ heading s f)
+    {lost : ℕ} (reason : Option Reason) (missed : lost ≡ lost_since s (last_count x) h.count)
+    (named : Named reason (reason_for s x lost (take (held_in x) store) h.pointer (zone_of s f))
+    (damage_by s (reason_for s x lost (take (held_in x) store) h.pointer (zone_of s f)) (take (held_in x) store) (zone_of s f))) where
+  heads : tells (Ok h) ≡ record { refusal = 0; count = count s f; replay = replay s f; pointer = pointer s f }
+  heads = says ∙ accepted_heading s f a.ranged a.accepts
+
+  counts : h.count ≡ count s f
+  counts = ap (λ (g : Heading). g.count) heads
+
+  replays : h.replay ≡ replay s f
+  replays = ap (λ (g : Heading). g.replay) heads
+
+  points : h.pointer ≡ pointer s f
+  points = ap (λ (g : Heading). g.pointer) heads
+
+  right : reason_number reason ≡ reason_of s (stands_for store x) f
+  right = reason_is s x store f (missed ∙ ap (lost_since s (last_count x)) counts) points named.0
+
+  wrong : reason_damage reason ≡ damage_of s (stands_for store x) f
+  wrong = damage_is s x store f right (named.1 ∙ ap (λ (n : ℕ). damage_by s n (take (held_in x) store) (zone_of s f)) (sym named.0))
+
+  pub taken_kept : {next : Extractor} → reason_number reason ≡ 0 → next ≡ set_off s h.count h.pointer (is_in_step x) (held_in x)
+      → entering_says (answered h lost 0 reason next) ≡ entered_as s x store f
+  unfolding entered_numbers
+  taken_kept none set = nothing_dropped a _ _ _ _ _ _ counts replays points missed right wrong _ none set
+
+  pub taken_lost : {dropped : ℕ} {next : Extractor} → (reason_number reason ≡ 0 → ⊥) → dropped ≡ held_in x
+      → next ≡ set_off s h.count h.pointer false 0
+      → entering_says (answered h lost dropped reason next) ≡ entered_as s x store f
+  unfolding entered_numbers
+  taken_lost some held set = all_dropped a _ _ _ _ _ _ counts replays points missed right wrong _ _ held some set
+
+-- a reason has no number 0
+pub none_is_0 : (r : Option Reason) → is_some r ≡ false → reason_number r ≡ 0
+none_is_0 None e = refl
+none_is_0 (Some r) e = apart (cc)
+
+pub some_is_not_0 : (r : Option Reason) → is_some r ≡ true → reason_number r ≡ 0 → ⊥
+some_is_not_0 None e h = apart (cc)
+some_is_not_0 (Some Reason.FramesMissing) e h = apart (cc)
+some_is_not_0 (Some Reason.PointerDiffers) e h = apart (cc)
+some_is_not_0 (Some (Reason.HeaderDamaged d)) e h = apart (cc)

@@ -9,11 +9,11 @@ use lib.ListN.{length}
 use Rattle.octets.specs.Basics.{pick, All}
 use Rattle.frames.specs.Frame.{in_range, frame_length}
 use Rattle.frames.specs.declared.Settings.{Settings}
+use Rattle.extractor.specs.Found.{Found}
 use Rattle.extractor.specs.Records.{reachable, is_entered, Stepped}
 use Rattle.extractor.specs.Calls.{goes_on, answers_to, SpentLast}
 use Rattle.extractor.specs.declared.Extractor.{Extractor}
 use Rattle.extractor.specs.declared.Extractor.TheVariants.{Fresh, Astray, InStep, Walking, Leaving}
-use Rattle.extractor.specs.declared.Found.{Found}
 use Rattle.extractor.proofs.Settles.{Keeps, packed_goes_on, step_keeps, call_is_step}
 use Rattle.extractor.proofs.Turns.{Turn, leave, keep, break, give, turn}
 

@@ -7,7 +7,6 @@ pub mod Listens
 pub mod Parts
 pub mod Passed
 pub mod Places
-pub mod Pointers
 pub mod Reaches
 pub mod Refused
 pub mod Settles

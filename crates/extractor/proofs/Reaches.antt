@@ -32,7 +32,7 @@ use Rattle.extractor.specs.Answers.{enter_answer}
 use Rattle.extractor.specs.Reach.{Reached, begins, enters, steps, lent, CanGoOn, Continues}
 use Rattle.extractor.specs.declared.Extractor.{Extractor}
 use Rattle.extractor.specs.declared.Extractor.TheVariants.{Fresh, Astray, InStep, Walking, Leaving}
-use Rattle.extractor.specs.declared.Found.TheVariants.{Spent}
+use Rattle.extractor.specs.Found.{Spent}
 use Rattle.extractor.proofs.Entries.{Arrival, nothing, onward, arrival}
 use Rattle.extractor.proofs.Listens.{entering_refusal}
 use Rattle.extractor.proofs.Places.{Begun, BegunIn, Place, in_zone, in_packet, holds_packet, holds_none, holds_some, ahead}

@@ -7,14 +7,16 @@ use Prim.Native.Nat.{ℕ}
 use native.Mathlib.Omega.{arith}
 use lib.ListN.{length}
 use lib.Dec.{ltb, eqb}
-use borrow.Author.Tests.{le-leb, eq-eqb, ne_eqb, eqb-false}
+use borrow.Author.Tests.{le-leb, eq-eqb, ne_eqb}
 use Rattle.octets.specs.Basics.{pick, and, Row, row, first}
+use Rattle.octets.proofs.Choices.{apart}
 use Rattle.octets.proofs.Tests.{test}
-use Rattle.frames.specs.Link.{header_rows}
-use Rattle.frames.specs.Frame.{in_range, frame_rows, heading_rows}
+use Rattle.frames.specs.Frame.{in_range, frame_rows, heading_rows, heading}
+use Rattle.frames.proofs.Accepted.{heading_refusal}
 use Rattle.frames.specs.declared.Settings.{Settings}
 use Rattle.frames.proofs.Wheel.{starts_on_wheel}
-use Rattle.extractor.specs.Records.{on_wheel, holds_well, reachable, held_in, checked}
+use Rattle.extractor.specs.Records.{on_wheel, holds_well, reachable, is_entered, held_in, checked, enter_rows}
+use Rattle.extractor.specs.Answers.{refused_enter, enter_answer}
 use Rattle.extractor.specs.Walks.{last_in, at_in, reached}
 use Rattle.extractor.specs.declared.Extractor.{Extractor}
 use Rattle.extractor.specs.declared.Extractor.TheVariants.{Fresh, Astray, InStep, Walking, Leaving}
@@ -61,38 +63,36 @@ module _ (s : Settings) (x : Extractor) (store : List ℕ) (rows : List Row) {n 
   pub refused_below : n ≡ 0 → first rows ≡ first (checked s x store rows)
   refused_below h = sym (rest ∙ rw (eq-eqb n 0 h) refl)
 
--- with settings in range the rows of store and record are those
-pub settled_rows : (s : Settings) (x : Extractor) (store : List ℕ) → in_range s ≡ true
-    → first (row 2 (ltb (length store) s.limit) ∷ row 10 (not (reachable s store x)) ∷ []) ≡ first (checked s x store [])
-unfolding first
-settled_rows s x store t = rw t refl
-
--- a row of another number is not the settings'
-other_row : (n : ℕ) (b : Bool) (rows : List Row) → eqb n 1 ≡ false → (first rows ≡ 1 → ⊥) → first (row n b ∷ rows) ≡ 1 → ⊥
-unfolding first
-other_row n true rows h k = eqb-false n 1 h
-other_row n false rows h k = k
-
-no_row : first [] ≡ 1 → ⊥
-unfolding first
-no_row = eqb-false 0 1 refl
-
 module _ (s : Settings) (f : List ℕ) where
-  frame_row : first (frame_rows s f) ≡ 1 → ⊥
-  unfolding frame_rows header_rows
-  frame_row =
-      other_row 3 _ _ refl
-      (other_row 13 _ _ refl (other_row 4 _ _ refl (other_row 5 _ _ refl (other_row 6 _ _ refl (other_row 7 _ _ refl no_row)))))
-
-  -- a header's refusal tells whether the settings are in range
-  pub out_of_range : first (heading_rows s f) ≡ 1 → in_range s ≡ false
-  unfolding first heading_rows
-  out_of_range e = test (in_range s) (λ t. absurd (frame_row (rw t at e))) (λ t. t)
-
-  pub within_range : (first (heading_rows s f) ≡ 1 → ⊥) → in_range s ≡ true
-  unfolding first heading_rows
-  within_range h = test (in_range s) (λ t. t) (λ t. absurd (h (rw t refl)))
-
   pub heading_row : in_range s ≡ true → first (heading_rows s f) ≡ first (frame_rows s f)
   unfolding first heading_rows
   heading_row t = rw t refl
+
+-- ---- entering
+
+module _ (s : Settings) (x : Extractor) (store f : List ℕ) where
+  pub entry_refused : {n : ℕ} → n ≡ first (enter_rows s x store f) → (n ≡ 0 → ⊥) → refused_enter x n ≡ enter_answer s x store f
+  unfolding enter_answer
+  entry_refused e some = rw (← e, ne_eqb _ 0 some) refl
+
+  pub entry_above : {n : ℕ} → n ≡ first (checked s x store []) → (n ≡ 0 → ⊥) → n ≡ first (enter_rows s x store f)
+  unfolding enter_rows
+  entry_above e some = refused_above s x store (row 9 (is_entered x) ∷ frame_rows s f) e some
+
+  -- where settings, store and record are not refused
+  module _ (none : 0 ≡ first (checked s x store [])) where
+    ranged : in_range s ≡ true
+    unfolding first
+    ranged = test (in_range s) (λ t. t) (λ t. apart (rw t at none))
+
+    pub entry_moment : is_entered x ≡ true → 9 ≡ first (enter_rows s x store f)
+    unfolding enter_rows first
+    entry_moment t =
+        let here : 9 ≡ first (row 9 (is_entered x) ∷ frame_rows s f) = rw t refl in
+        here ∙ refused_below s x store (row 9 (is_entered x) ∷ frame_rows s f) none refl
+
+    pub entry_below : {n : ℕ} → is_entered x ≡ false → n ≡ (heading s f).refusal → n ≡ first (enter_rows s x store f)
+    unfolding enter_rows first
+    entry_below t e =
+        let here : first (frame_rows s f) ≡ first (row 9 (is_entered x) ∷ frame_rows s f) = rw t refl in
+        e ∙ heading_refusal s f ∙ heading_row s f ranged ∙ here ∙ refused_below s x store (row 9 (is_entered x) ∷ frame_rows s f) none refl

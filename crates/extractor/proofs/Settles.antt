@@ -28,8 +28,7 @@ use Rattle.extractor.specs.Records.{on_wheel, reachable, is_entered, stands_for,
 use Rattle.extractor.specs.Calls.{event_at, Finds, one_more, none_left, goes_on, steps, through, SpentLast}
 use Rattle.extractor.specs.declared.Extractor.{Extractor}
 use Rattle.extractor.specs.declared.Extractor.TheVariants.{Fresh, Astray, InStep, Walking, Leaving}
-use Rattle.extractor.specs.declared.Found.{Found}
-use Rattle.extractor.specs.declared.Found.TheVariants.{Damaged}
+use Rattle.extractor.specs.Found.{Found, Damaged}
 use Rattle.extractor.proofs.Entries.{Arrival, nothing, onward, arrival}
 use Rattle.extractor.proofs.Places.{Begun, Place, in_zone, place, walking_reachable, holds_some, ahead}
 use Rattle.extractor.proofs.Turns.{Packed, framed, stored, Turn, leave, keep, break, give, turn, walking_turn}

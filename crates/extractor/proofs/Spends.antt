@@ -3,28 +3,23 @@
 use mathlib.Core.Path.{◌≡◌, refl, sym, ap, ◌∙◌, subst}
 use mathlib.Core.List.{List, [], ◌∷◌}
 use mathlib.Core.Bool.{true, false}
-use Prim.Native.Nat.{ℕ, zero, suc, ◌≤◌, ◌<◌}
+use Prim.Native.Nat.{ℕ, zero, suc, ◌-◌, ◌≤◌, ◌<◌}
 use native.Mathlib.Omega.{arith}
-use types.Run.{OneOf, miss}
-use denote.Enum.Declared.{tag_of}
 use lib.Dec.{eqb}
-use borrow.Author.Tests.{eqb-true}
+use borrow.Author.Tests.{ne_eqb, eqb-true}
 use Rattle.octets.specs.Basics.{pick, first}
 use Rattle.octets.proofs.Choices.{apart}
 use Rattle.octets.proofs.Tests.{test}
 use Rattle.frames.specs.declared.Settings.{Settings}
-use Rattle.extractor.specs.Records.{is_entered, step_rows, Stepped, step, step_call}
-use Rattle.extractor.specs.Answers.{stepped}
+use Rattle.extractor.specs.Records.{step_rows, Stepped, step, step_call}
+use Rattle.extractor.specs.Answers.{move_says}
 use Rattle.extractor.specs.Calls.{Finds, one_more, none_left, goes_on, steps, through, spends_to, spend_answer, SpentLast}
-use Rattle.extractor.specs.Walks.{at_rest}
 use Rattle.extractor.specs.declared.Extractor.{Extractor}
 use Rattle.extractor.specs.declared.Extractor.TheVariants.{Fresh, Astray, InStep, Walking, Leaving}
-use Rattle.extractor.specs.declared.Found.{Found}
-use Rattle.extractor.specs.declared.Found.TheVariants.{Spent}
+use Rattle.extractor.specs.Found.{Found, Spent}
 use Rattle.extractor.specs.declared.Move.{Move}
-use Rattle.extractor.specs.contracts.Extractor.{the_type}
 use Rattle.extractor.proofs.Settles.{Keeps, packed_goes_on, step_keeps, step_unrefused, spent_in_time}
-use Rattle.extractor.proofs.Turns.{Turn, keep, break, give, turn}
+use Rattle.extractor.proofs.Turns.{Turn, leave, keep, break, give, turn}
 use Rattle.extractor.proofs.Unrefused.{moves}
 
 spent_later : (a : Found) (found : List Found) → SpentLast (a ∷ found) → goes_on a ≡ true → SpentLast found
@@ -76,6 +71,10 @@ module _ (s : Settings) (f : List ℕ) where
       (λ t. rw (t, eqb-true (first (step_rows s x store f)) 0 t) refl)
       (λ t. let (same, same_Store) = refused_stays x store t in rw (t, same, same_Store) refl)
 
+  -- what is said of one that is refused
+  pub spend_refused : (x : Extractor) (store : List ℕ) {n : ℕ} → n ≡ first (step_rows s x store f) → (n ≡ 0 → ⊥) → spends_to n x store ≡ spend_answer s x store f
+  spend_refused x store e some = rw (spends_by_rows x store, ← e, ne_eqb _ _ some) refl
+
   -- a step that is not refused
   module _ (x : Extractor) (store : List ℕ) (e : first (step_rows s x store f) ≡ 0) {w : Stepped} (is : step s f store x ≡ w) where
     call : step_call s x store f ≡ w
@@ -105,15 +104,29 @@ module _ (s : Settings) (f : List ℕ) where
 
   -- ---- the steps of a walk
 
-  -- what is left to do after a step from `at` on, for all the steps to leave t: the same from a later place with nothing held, or nothing
-  abbrev pub Rest : Finds → ℕ → ℕ → Extractor → List ℕ → Type 0
-  Rest t last at Fresh st = (Fresh ≡ t.next) × (st ≡ t.store)
-  Rest t last at (Astray c) st = (Astray c ≡ t.next) × (st ≡ t.store)
-  Rest t last at (InStep c h) st = (InStep c h ≡ t.next) × (st ≡ t.store)
-  Rest t last at (Walking c h n) st =
-      (first (step_rows s (Walking last 0 n) st f) ≡ 0)
-      × (((through s f (Walking last 0 n) st).next ≡ t.next) × (((through s f (Walking last 0 n) st).store ≡ t.store) × ((at < n) × (n ≤ s.zone))))
-  Rest t last at (Leaving c) st = (Astray c ≡ t.next) × (st ≡ t.store)
+  -- a walk with nothing held, whose steps leave this record and this store
+  pub record Onward (next : Extractor) (left : List ℕ) (c h n : ℕ) (st : List ℕ) : Type 0 where
+    pub none_held : h ≡ 0
+    pub unrefused : first (step_rows s (Walking c h n) st f) ≡ 0
+    pub same_next : (through s f (Walking c h n) st).next ≡ next
+    pub same_store : (through s f (Walking c h n) st).store ≡ left
+    pub inside : n ≤ s.zone
+
+  -- what is left to do of a record, for the same: the steps of such a walk, or nothing
+  abbrev pub Rest : Extractor → List ℕ → Extractor → List ℕ → Type 0
+  Rest next left Fresh st = (Fresh ≡ next) × (st ≡ left)
+  Rest next left (Astray c) st = (Astray c ≡ next) × (st ≡ left)
+  Rest next left (InStep c h) st = (InStep c h ≡ next) × (st ≡ left)
+  Rest next left (Walking c h n) st = Onward next left c h n st
+  Rest next left (Leaving c) st = (Astray c ≡ next) × (st ≡ left)
+
+  -- how many more turns a walk may take
+  abbrev pub turns : Extractor → ℕ
+  turns Fresh = 0
+  turns (Astray c) = 0
+  turns (InStep c h) = 0
+  turns (Walking c h n) = suc s.zone - n
+  turns (Leaving c) = 0
 
   -- out of step nothing is left
   leaving : (last : ℕ) (store : List ℕ) → first (step_rows s (Leaving last) store f) ≡ 0
@@ -121,47 +134,63 @@ module _ (s : Settings) (f : List ℕ) where
   unfolding step
   leaving last store e = through_last (Leaving last) store e refl refl
 
-  turned : (last h at : ℕ) (store : List ℕ) {w : Stepped} → first (step_rows s (Walking last h at) store f) ≡ 0
-      → step s f store (Walking last h at) ≡ w → Turn s f store (Walking last h at) w
-      → Rest (through s f (Walking last h at) store) last at w.next w.store
-  turned last h at store e is (keep begun fits) =
+  -- all that the steps from a record on leave
+  abbrev Left : Extractor → List ℕ → Extractor → List ℕ → Type 0
+  Left x store next st = Rest (through s f x store).next (through s f x store).store next st
+
+  by_turn : {x : Extractor} {store : List ℕ} {w : Stepped} → first (step_rows s x store f) ≡ 0 → step s f store x ≡ w → Turn s f store x w
+      → Left x store w.next w.store
+  by_turn {store = store} e is (leave {last}) =
+      let u = leaving last store e in
+      (sym (ap (λ (t : Finds). t.next) u), sym (ap (λ (t : Finds). t.store) u))
+  by_turn {store = store} e is (keep {last} {h} {at} begun fits) =
       let u = through_last (Walking last h at) store e is refl in
       (sym (ap (λ (t : Finds). t.next) u), sym (ap (λ (t : Finds). t.store) u))
-  turned last h at store e is (break damaged before) =
+  by_turn {store = store} e is (break {last} {h} {at} damaged before) =
       let u = through_on (Walking last h at) store e is refl in
       let v = leaving last store (followed (Walking last h at) store e is refl) in
       (sym (ap (λ (t : Finds). t.next) u ∙ ap (λ (t : Finds). t.next) v), sym (ap (λ (t : Finds). t.store) u ∙ ap (λ (t : Finds). t.store) v))
-  turned last h at store e is (give packed seen fits shows rest low high same far) =
+  by_turn {store = store} e is (give {last} {h} {at} packed seen fits shows rest low high same far) =
       let on = packed_goes_on packed in
-      let u = through_on (Walking last h at) store e is on in (
-        followed (Walking last h at) store e is on,
-        (sym (ap (λ (t : Finds). t.next) u), (sym (ap (λ (t : Finds). t.store) u), (low, high))),
-      )
+      let u = through_on (Walking last h at) store e is on in
+      record {
+        none_held = refl;
+        unrefused = followed (Walking last h at) store e is on;
+        same_next = sym (ap (λ (t : Finds). t.next) u);
+        same_store = sym (ap (λ (t : Finds). t.store) u);
+        inside = high;
+      }
 
   -- the outcome of a step
-  pub rest_after : (last h at : ℕ) (store : List ℕ) (r : Move) (st : List ℕ) → first (step_rows s (Walking last h at) store f) ≡ 0
-      → stepped r st ≡ step s f store (Walking last h at) → Rest (through s f (Walking last h at) store) last at r.next st
-  rest_after last h at store r st e told =
+  pub rest_after : (x : Extractor) (store : List ℕ) (r : Move) (st : List ℕ) → first (step_rows s x store f) ≡ 0
+      → move_says r st ≡ step s f store x → Left x store r.next st
+  rest_after x store r st e told =
+      let m = moves s x store f e in
+      subst (λ (w : Stepped). Left x store w.next w.store) (sym told)
+      (by_turn e refl (turn s f store m.ranged m.framed m.room x m.reached m.underway))
+
+  -- a walk goes on further in the zone, or ends
+  further : {last h at : ℕ} {store : List ℕ} {w : Stepped} → at ≤ s.zone → Turn s f store (Walking last h at) w → turns w.next < suc s.zone - at
+  further low (keep begun fits) = omega arith
+  further low (break damaged before) = omega arith
+  further low (give packed seen fits shows rest more high same far) = omega arith
+
+  pub fewer_turns : (last h at : ℕ) (store : List ℕ) (r : Move) (st : List ℕ) → at ≤ s.zone → first (step_rows s (Walking last h at) store f) ≡ 0
+      → move_says r st ≡ step s f store (Walking last h at) → turns r.next < suc s.zone - at
+  fewer_turns last h at store r st low e told =
       let m = moves s (Walking last h at) store f e in
-      subst (λ (w : Stepped). Rest (through s f (Walking last h at) store) last at w.next w.store) (sym told)
-      (turned last h at store e refl (turn s f store m.ranged m.framed m.room (Walking last h at) m.reached m.underway))
+      subst (λ (w : Stepped). turns w.next < suc s.zone - at) (sym told)
+      (further low (turn s f store m.ranged m.framed m.room (Walking last h at) m.reached m.underway))
 
-  -- a record that is no longer walked has nothing left
-  pub none_after : (t : Finds) (last at : ℕ) (x : Extractor) (st : List ℕ) → OneOf (0 ∷ 1 ∷ 2 ∷ 4 ∷ []) (tag_of the_type x) → Rest t last at x st
-      → (at_rest x ≡ t.next) × (st ≡ t.store)
-  none_after t last at Fresh st k r = r
-  none_after t last at (Astray c) st k r = r
-  none_after t last at (InStep c h) st k r = r
-  none_after t last at (Walking c h n) st k r = absurd (miss (0 ∷ 1 ∷ 2 ∷ 4 ∷ []) 3 tt k)
-  none_after t last at (Leaving c) st k r = r
-
-  -- and before the first step it is out of step
-  pub none_before : (x : Extractor) (store : List ℕ) → first (step_rows s x store f) ≡ 0 → OneOf (0 ∷ 1 ∷ 2 ∷ 4 ∷ []) (tag_of the_type x)
-      → (at_rest x ≡ (through s f x store).next) × (store ≡ (through s f x store).store)
-  unfolding is_entered
-  none_before Fresh store e k = let m = moves s Fresh store f e in apart (cc m.underway)
-  none_before (Astray c) store e k = let m = moves s (Astray c) store f e in apart (cc m.underway)
-  none_before (InStep c h) store e k = let m = moves s (InStep c h) store f e in apart (cc m.underway)
-  none_before (Walking c h n) store e k = absurd (miss (0 ∷ 1 ∷ 2 ∷ 4 ∷ []) 3 tt k)
-  none_before (Leaving c) store e k =
-      let u = leaving c store e in (sym (ap (λ (t : Finds). t.next) u), sym (ap (λ (t : Finds). t.store) u))
+  -- the outcome of a step of a walk with nothing held
+  pub rest_on : {next : Extractor} {left : List ℕ} {c h n : ℕ} {st : List ℕ} → Onward next left c h n st → (r : Move) (st' : List ℕ)
+      → move_says r st' ≡ step s f st (Walking c 0 n) → Rest next left r.next st' × (turns r.next < suc s.zone - n)
+  rest_on {next} {left} {c} {h} {n} {st} o r st' told =
+      let unrefused : first (step_rows s (Walking c 0 n) st f) ≡ 0 = rw o.none_held at o.unrefused in
+      let same_next : (through s f (Walking c 0 n) st).next ≡ next = rw o.none_held at o.same_next in
+      let same_store : (through s f (Walking c 0 n) st).store ≡ left = rw o.none_held at o.same_store in
+      let rest = rest_after (Walking c 0 n) st r st' unrefused told in (
+        subst (λ (m : Extractor). Rest m left r.next st') same_next
+            (subst (λ (l : List ℕ). Rest (through s f (Walking c 0 n) st).next l r.next st') same_store rest),
+        fewer_turns c 0 n st r st' o.inside unrefused told,
+      )

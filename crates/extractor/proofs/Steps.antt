@@ -11,12 +11,14 @@ use lib.ListN.{length, take, drop, length-append}
 use lib.Seq.{take-take, take-nil, take-append-add, drop-nil, drop-drop, length-take-le}
 use lib.Dec.{ltb}
 use borrow.Author.Tests.{le-leb, lt-leb, ltb-true, ltb-false, eq-eqb, ne_eqb}
-use Rattle.octets.specs.Basics.{over, laid_part}
+use Rattle.octets.specs.Basics.{over}
 use Rattle.octets.proofs.Choices.{apart}
 use Rattle.octets.proofs.Tests.{test}
-use Rattle.octets.proofs.Written.{length_run, part_within, over-take}
+use Rattle.octets.proofs.Written.{length_run, over-take}
 use Rattle.packets.specs.Packet.{whole, look, is_idle}
 use Rattle.packets.specs.Header.{seen}
+use Rattle.packets.specs.Damage.{damage_number}
+use Rattle.packets.specs.declared.damage.Damage.{Damage}
 use Rattle.packets.specs.declared.Seen.{Seen}
 use Rattle.packets.specs.declared.Seen.TheVariants.{More, Whole}
 use Rattle.packets.proofs.Grown.{look_bounds}
@@ -25,9 +27,10 @@ use Rattle.frames.specs.Frame.{zone_of, frame_length}
 use Rattle.frames.specs.declared.Settings.{Settings}
 use Rattle.frames.proofs.Settled.{settled}
 use Rattle.extractor.specs.Records.{step, step_look, handed_over, steps_to, kept_for_later}
-use Rattle.extractor.specs.Walks.{at_hand, Walks}
-use Rattle.extractor.specs.declared.Extractor.TheVariants.{Walking, Leaving}
-use Rattle.extractor.specs.declared.Found.TheVariants.{InFrame, InStore, Damaged}
+use Rattle.extractor.specs.Walks.{at_hand, Walks, at_rest}
+use Rattle.extractor.specs.declared.Extractor.{Extractor}
+use Rattle.extractor.specs.declared.Extractor.TheVariants.{Fresh, Astray, InStep, Walking, Leaving}
+use Rattle.extractor.specs.Found.{InFrame, InStore, Damaged, Spent}
 
 drop-take : (a n : ℕ) (l : List ℕ) → drop a (take n l) ≡ take (n - a) (drop a l)
 drop-take zero n l = ap (λ (k : ℕ). take k l) (sym (sub-zero n))
@@ -45,7 +48,7 @@ hand_more n (Whole l) e = test (ltb n l) (λ t. inr (l, refl, ltb-true n l t)) (
     longer : Whole l ≡ More → ⊥
     longer e = apart (cc)
 
-hand_damaged : (n : ℕ) (r : Seen) {d : ℕ} → at_hand n r ≡ Seen.Damaged d → r ≡ Seen.Damaged d
+hand_damaged : (n : ℕ) (r : Seen) {d : Damage} → at_hand n r ≡ Seen.Damaged d → r ≡ Seen.Damaged d
 unfolding at_hand
 hand_damaged n More e = e
 hand_damaged n (Seen.Damaged d) e = e
@@ -94,7 +97,7 @@ plain {s} w =
     record { least = r.limit_least; room = w.room; small = r.zone_most; inside = w.inside; holds = w.holds; long = omega (arith, w.framed) }
 
 module _ {s : Settings} {h at : ℕ} {store f : List ℕ} (w : Walks s h at store f) (last : ℕ) where
-  length-left : length (left s at f) ≡ 8 + s.zone - (8 + at)
+  pub length-left : length (left s at f) ≡ 8 + s.zone - (8 + at)
   length-left = length_run f (8 + at) (8 + s.zone - (8 + at)) (omega (arith, plain w))
 
   -- the octets held, and those after them
@@ -116,7 +119,7 @@ module _ {s : Settings} {h at : ℕ} {store f : List ℕ} (w : Walks s h at stor
     unfolding seen step_look
     step_more q = sym (at_look ∙ ap (λ (x : Seen). step_look s store last h at (left s at f) (seen x)) q)
 
-    step_damaged : {d : ℕ} → r ≡ Seen.Damaged d → steps_to (Damaged d) (Leaving last) store ≡ step s f store (Walking last h at)
+    step_damaged : {d : Damage} → r ≡ Seen.Damaged d → steps_to (Damaged (damage_number d)) (Leaving last) store ≡ step s f store (Walking last h at)
     unfolding seen step_look
     step_damaged q = sym (at_look ∙ ap (λ (x : Seen). step_look s store last h at (left s at f) (seen x)) q)
 
@@ -129,7 +132,7 @@ module _ {s : Settings} {h at : ℕ} {store f : List ℕ} (w : Walks s h at stor
       unfolding seen
       its_length = ap seen q
 
-      whole_limit : l ≤ s.limit
+      pub whole_limit : l ≤ s.limit
       whole_limit = (look_bounds s.limit both some_room (sym told ∙ its_length)).1
 
       step_later : h + (8 + s.zone - (8 + at)) < l → kept_for_later store last h (left s at f) ≡ step s f store (Walking last h at)
@@ -139,6 +142,10 @@ module _ {s : Settings} {h at : ℕ} {store f : List ℕ} (w : Walks s h at stor
           ∙ rw (lt-leb l (h + length (left s at f)) (omega (arith, length-left))) refl)
 
       module _ (k : l ≤ h + (8 + s.zone - (8 + at))) where
+        -- its last octets lie in the zone, and have room behind those held
+        pub laid_fits : (l - h ≤ length (left s at f)) × (h + (l - h) ≤ length store)
+        laid_fits = (omega (arith, length-left, k), omega (arith, whole_limit, plain w))
+
         handed : handed_over s store last h at (left s at f) l ≡ step s f store (Walking last h at)
         unfolding step_look
         handed =
@@ -159,15 +166,10 @@ module _ {s : Settings} {h at : ℕ} {store f : List ℕ} (w : Walks s h at stor
             rw mark (rw (eq-eqb h 0 none) at handed)
 
         -- a packet whose last octets are laid after those held
-        pub step_laid : (n : ℕ) (st : List ℕ) (idle : Bool) → (h ≡ 0 → ⊥) → n ≡ at + (l - h) → st ≡ laid_part store h (8 + at) (8 + n) f → idle ≡ is_idle st
+        pub step_laid : (n : ℕ) (st : List ℕ) (idle : Bool) → (h ≡ 0 → ⊥) → n ≡ at + (l - h) → st ≡ over store h (take (l - h) (left s at f)) → idle ≡ is_idle st
             → steps_to (InStore l idle) (Walking last 0 n) st ≡ step s f store (Walking last h at)
         unfolding handed_over
-        step_laid n st idle some m v i =
-            let rest : ℕ = 8 + s.zone - (8 + at) in
-            let cut : take (l - h) (left s at f) ≡ take (l - h) (drop (8 + at) f) = take-take (l - h) rest (drop (8 + at) f) (omega arith) in
-            let size : 8 + n - (8 + at) ≡ l - h = omega arith in
-            let written : st ≡ over store h (take (l - h) (left s at f)) =
-            rw (v, cut, part_within store h (8 + at) (8 + n) f (omega arith) (omega (arith, plain w)) (omega (arith, whole_limit, plain w)), size) refl in
+        step_laid n st idle some m written i =
             let mark : idle ≡ is_idle (take l both) = i ∙ its_mark st (ap (take l) written ∙ packet_laid) in
             rw (mark, m, written) (rw (ne_eqb h 0 some) at handed)
           where
@@ -188,7 +190,7 @@ module _ {s : Settings} {h at : ℕ} {store f : List ℕ} (w : Walks s h at stor
 
     -- by the octets that are at hand: those held, and the zone's from `at`
     module _ {n : ℕ} (many : n ≡ h + (8 + s.zone - (8 + at))) {there : Seen} (cut : there ≡ at_hand n r) where
-      pub step_torn : {d : ℕ} → there ≡ Seen.Damaged d → steps_to (Damaged d) (Leaving last) store ≡ step s f store (Walking last h at)
+      pub step_torn : {d : Damage} → there ≡ Seen.Damaged d → steps_to (Damaged (damage_number d)) (Leaving last) store ≡ step s f store (Walking last h at)
       step_torn q = step_damaged (hand_damaged n r (sym cut ∙ q))
 
       pub step_kept : there ≡ More → kept_for_later store last h (left s at f) ≡ step s f store (Walking last h at)
@@ -207,3 +209,12 @@ module _ {s : Settings} {h at : ℕ} {store f : List ℕ} (w : Walks s h at stor
 
       pub whole_there : {l : ℕ} → there ≡ Whole l → (r ≡ Whole l) × (l ≤ h + (8 + s.zone - (8 + at)))
       whole_there {l} q = let (e, k) = hand_whole n r (sym cut ∙ q) in (e, omega (arith, many, k))
+
+-- a record that is not walked is spent
+pub rested : (s : Settings) (f store : List ℕ) (x : Extractor) → ((last h at : ℕ) → x ≡ Walking last h at → ⊥) → steps_to Spent (at_rest x) store ≡ step s f store x
+unfolding step
+rested s f store Fresh other = refl
+rested s f store (Astray last) other = refl
+rested s f store (InStep last h) other = refl
+rested s f store (Walking last h at) other = absurd (other last h at refl)
+rested s f store (Leaving last) other = refl

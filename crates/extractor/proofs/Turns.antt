@@ -25,8 +25,7 @@ use Rattle.frames.proofs.Settled.{settled}
 use Rattle.extractor.specs.Records.{unfinished, reachable, is_entered, Stepped, steps_to, kept_for_later, handed_over, step_look, step, shown}
 use Rattle.extractor.specs.declared.Extractor.{Extractor}
 use Rattle.extractor.specs.declared.Extractor.TheVariants.{Fresh, Astray, InStep, Walking, Leaving}
-use Rattle.extractor.specs.declared.Found.{Found}
-use Rattle.extractor.specs.declared.Found.TheVariants.{InFrame, InStore, Damaged, Spent}
+use Rattle.extractor.specs.Found.{Found, InFrame, InStore, Damaged, Spent}
 use Rattle.extractor.proofs.Places.{Begun, Place, in_zone, in_packet, place, place_held, ahead}
 
 -- an answer that a packet is handed over, idle or not

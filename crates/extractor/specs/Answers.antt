@@ -1,16 +1,18 @@
 -- The answers in document 01's numbers.
-use Rattle.std.specs.Prelude.{ℕ, List, [], Bool, eqb}
+use Rattle.std.specs.Prelude.{ℕ, List, [], Bool, eqb, Option, None, Some, Result, Ok, Err}
 use Rattle.octets.specs.Basics.{pick, first}
+use Rattle.octets.specs.Refusals.{number_of}
+use Rattle.octets.specs.declared.refusals.Refusal.{Refusal}
+use Rattle.packets.specs.Damage.{damage_number}
 use Rattle.frames.specs.declared.Settings.{Settings}
 use Rattle.extractor.specs.Extract.{Said, take_in}
 use Rattle.extractor.specs.Records.{stands_for, enter_rows, enter, Stepped, steps_to, step_call, shown}
 use Rattle.extractor.specs.declared.Extractor.{Extractor}
-use Rattle.extractor.specs.declared.Entered.{Entered}
-use Rattle.extractor.specs.declared.Entered.TheVariants.{Taken}
-use Rattle.extractor.specs.declared.Entered.TheVariants as entered
+use Rattle.extractor.specs.declared.Reason.{Reason}
+use Rattle.extractor.specs.declared.Entry.{Entry}
 use Rattle.extractor.specs.declared.Entering.{Entering}
-use Rattle.extractor.specs.declared.Found.{Found}
-use Rattle.extractor.specs.declared.Found.TheVariants.{Refused, InFrame, InStore, Damaged, Spent}
+use Rattle.extractor.specs.declared.Found as declared
+use Rattle.extractor.specs.Found.{Found, Refused, InFrame, InStore, Damaged, Spent}
 use Rattle.extractor.specs.declared.Move.{Move}
 
 -- ---- entering
@@ -30,20 +32,49 @@ pub record EnterNumbers : Type 0 where
 abbrev pub refused_entry : ℕ → EnterNumbers
 refused_entry n = record { refusal = n; outcome = 0; count = 0; replay = 0; lost = 0; dropped = 0; reason = 0; damage = 0 }
 
--- each case of the answer in numbers
-unfoldable pub entered_numbers : Entered → EnterNumbers
-entered_numbers (entered.Refused n) = refused_entry n
-entered_numbers (Taken e) =
-    record { refusal = 0; outcome = 1; count = e.count; replay = e.replay; lost = e.lost; dropped = e.dropped; reason = e.reason; damage = e.damage }
+-- why octets held are dropped: 0 they are not, 1 frames are missing, 2 the pointer differs, 3 their header is damaged
+abbrev pub reason_number : Option Reason → ℕ
+reason_number None = 0
+reason_number (Some Reason.FramesMissing) = 1
+reason_number (Some Reason.PointerDiffers) = 2
+reason_number (Some (Reason.HeaderDamaged d)) = 3
+
+-- and with 3 what is wrong with it
+abbrev pub reason_damage : Option Reason → ℕ
+reason_damage None = 0
+reason_damage (Some Reason.FramesMissing) = 0
+reason_damage (Some Reason.PointerDiffers) = 0
+reason_damage (Some (Reason.HeaderDamaged d)) = damage_number d
+
+-- what is said of a frame that is entered, in numbers
+unfoldable pub entered_numbers : Entry → EnterNumbers
+entered_numbers e = record {
+  refusal = 0;
+  outcome = 1;
+  count = e.count;
+  replay = e.replay;
+  lost = e.lost;
+  dropped = e.dropped;
+  reason = reason_number e.reason;
+  damage = reason_damage e.reason;
+}
 
 -- an answer in numbers, and the record after it
 pub record EnterSaid : Type 0 where
   pub answer : EnterNumbers
   pub next : Extractor
 
--- what an answer says
-abbrev pub enter_says : Entering → EnterSaid
-enter_says r = record { answer = entered_numbers r.entered; next = r.next }
+-- a call that is refused by n leaves the record as it was
+abbrev pub refused_enter : Extractor → ℕ → EnterSaid
+refused_enter x n = record { answer = refused_entry n; next = x }
+
+-- what an answer says, where this was the record before
+abbrev pub entering_says : Entering → EnterSaid
+entering_says e = record { answer = entered_numbers e.entry; next = e.next }
+
+abbrev pub enter_says : Extractor → Result Entering Refusal → EnterSaid
+enter_says x (Err refusal) = refused_enter x (number_of refusal)
+enter_says x (Ok e) = entering_says e
 
 -- what the rules say of a frame that is entered
 abbrev pub said_numbers : Said → EnterNumbers
@@ -59,7 +90,7 @@ entered_as s x store f =
 unfoldable pub enter_answer : Settings → Extractor → List ℕ → List ℕ → EnterSaid
 enter_answer s x store f =
     let n : ℕ = first (enter_rows s x store f) in
-    pick (eqb n 0) (entered_as s x store f) (record { answer = refused_entry n; next = x })
+    pick (eqb n 0) (entered_as s x store f) (refused_enter x n)
 
 -- ---- a step
 
@@ -106,13 +137,30 @@ pub record StepSaid : Type 0 where
 abbrev pub said : List ℕ → Stepped → StepSaid
 said f w = record { answer = found_numbers f w.store w.found; next = w.next; store = w.store }
 
--- an answer with the store that it leaves
-abbrev pub stepped : Move → List ℕ → Stepped
-stepped m st = steps_to m.found m.next st
+-- what a step found, in numbers
+abbrev pub as_found : declared.Found → Found
+as_found (declared.Found.InFrame start size idle) = InFrame start size idle
+as_found (declared.Found.InStore size idle) = InStore size idle
+as_found (declared.Found.Damaged d) = Damaged (damage_number d)
+as_found declared.Found.Spent = Spent
+
+-- an answer, in numbers
+abbrev pub answered : Result Move Refusal → Found
+answered (Err refusal) = Refused (number_of refusal)
+answered (Ok m) = as_found m.found
+
+-- what a step found, and the record and the store that it leaves
+abbrev pub move_says : Move → List ℕ → Stepped
+move_says m st = steps_to (as_found m.found) m.next st
+
+-- the same of an answer, where this was the record before
+abbrev pub stepped : Extractor → Result Move Refusal → List ℕ → Stepped
+stepped x (Err refusal) st = steps_to (Refused (number_of refusal)) x st
+stepped x (Ok m) st = move_says m st
 
 -- what an answer says
-abbrev pub step_says : Move → List ℕ → List ℕ → StepSaid
-step_says m f st = said f (stepped m st)
+abbrev pub step_says : Extractor → Result Move Refusal → List ℕ → List ℕ → StepSaid
+step_says x m f st = said f (stepped x m st)
 
 -- what the rules give
 unfoldable pub step_answer : Settings → Extractor → List ℕ → List ℕ → StepSaid

@@ -1,14 +1,14 @@
 -- Calls one after another: a frame entered and stepped until it is spent, and a run of frames.
-use Rattle.std.specs.Prelude.{ℕ, zero, suc, ◌≡◌, List, [], ◌∷◌, ◌++◌, Bool, true, false, eqb}
+use Rattle.std.specs.Prelude.{ℕ, zero, suc, ◌≡◌, List, [], ◌∷◌, ◌++◌, Bool, true, false, eqb, Result, Ok, Err}
 use Rattle.octets.specs.Basics.{pick, first, All}
+use Rattle.octets.specs.Refusals.{number_of}
+use Rattle.octets.specs.declared.refusals.Refusal.{Refusal}
 use Rattle.frames.specs.declared.Settings.{Settings}
 use Rattle.extractor.specs.Extract.{Event, torn, as_event, Said, Told, refused, taken}
 use Rattle.extractor.specs.Records.{stands_for, step_rows, Stepped, step_call, shown}
 use Rattle.extractor.specs.Answers.{EnterNumbers, EnterSaid, enter_answer}
 use Rattle.extractor.specs.declared.Extractor.{Extractor}
-use Rattle.extractor.specs.declared.Found.{Found}
-use Rattle.extractor.specs.declared.Spending.{Spending}
-use Rattle.extractor.specs.declared.Found.TheVariants.{Refused, InFrame, InStore, Damaged, Spent}
+use Rattle.extractor.specs.Found.{Found, Refused, InFrame, InStore, Damaged, Spent}
 
 -- what an answer, and the octets that `show` hands back for it, say
 unfoldable pub event_at : Found → List ℕ → List Event
@@ -67,9 +67,10 @@ pub record SpendSaid : Type 0 where
 abbrev pub spends_to : ℕ → Extractor → List ℕ → SpendSaid
 spends_to n x st = record { refusal = n; next = x; store = st }
 
--- what an answer says
-abbrev pub spend_says : Spending → List ℕ → SpendSaid
-spend_says r st = spends_to r.refusal r.next st
+-- what an answer says, where this was the record before
+abbrev pub spend_says : Extractor → Result Extractor Refusal → List ℕ → SpendSaid
+spend_says x (Err refusal) st = spends_to (number_of refusal) x st
+spend_says x (Ok next) st = spends_to 0 next st
 
 -- what the rules give: a step that is refused is the last one, and leaves all as it was
 unfoldable pub spend_answer : Settings → Extractor → List ℕ → List ℕ → SpendSaid

@@ -1,4 +1,5 @@
 pub mod Extract
+pub mod Found
 pub mod Records
 pub mod Answers
 pub mod Calls

@@ -9,8 +9,7 @@ use Rattle.frames.specs.declared.Settings.{Settings}
 use Rattle.extractor.specs.Extract.{Step, astray, in_step, State, step_of}
 use Rattle.extractor.specs.declared.Extractor.{Extractor}
 use Rattle.extractor.specs.declared.Extractor.TheVariants.{Fresh, Astray, InStep, Walking, Leaving}
-use Rattle.extractor.specs.declared.Found.{Found}
-use Rattle.extractor.specs.declared.Found.TheVariants.{Refused, InFrame, InStore, Damaged, Spent}
+use Rattle.extractor.specs.Found.{Found, Refused, InFrame, InStore, Damaged, Spent}
 
 -- ---- the records that the rules can reach
 

@@ -1,6 +1,7 @@
 -- What is shown of the extractor's calls.
-use Rattle.std.specs.Prelude.{◌↔◌, ◌≡◌, List, [], ◌∷◌, true, false, suc, ℕ, ◌≤◌, length, drop}
+use Rattle.std.specs.Prelude.{◌↔◌, ◌≡◌, List, [], ◌∷◌, true, false, suc, ℕ, ◌≤◌, length, drop, Result}
 use Rattle.octets.specs.Basics.{and, All, AllOctets, first}
+use Rattle.octets.specs.declared.refusals.Refusal.{Refusal}
 use Rattle.frames.specs.Frame.{in_range, frame_length}
 use Rattle.frames.specs.declared.Edition.TheVariants.{Former}
 use Rattle.frames.specs.declared.Settings.{Settings}
@@ -13,7 +14,6 @@ use Rattle.extractor.specs.declared.Extractor.{Extractor}
 use Rattle.extractor.specs.declared.Extractor.TheVariants.{Fresh, Walking}
 use Rattle.extractor.specs.declared.Entering.{Entering}
 use Rattle.extractor.specs.declared.Move.{Move}
-use Rattle.extractor.specs.declared.Spending.{Spending}
 
 -- the least zone and the least limit
 abbrev pub tight : Settings
@@ -72,6 +72,8 @@ pub record Exceptions : Type 0 where
 
 -- Two outcomes that meet a promise are equal: the answer, the record and every octet of the store.
 pub record Determined : Type 0 where
-  pub entering : {a b : Entering} {x : EnterSaid} → enter_says a ≡ x → enter_says b ≡ x → a ≡ b
-  pub stepping : (f : List ℕ) {a b : Move} {p q : List ℕ} {x : StepSaid} → step_says a f p ≡ x → step_says b f q ≡ x → (a ≡ b) × (p ≡ q)
-  pub spending : {a b : Spending} {p q : List ℕ} {x : SpendSaid} → spend_says a p ≡ x → spend_says b q ≡ x → (a ≡ b) × (p ≡ q)
+  pub entering : (y : Extractor) {a b : Result Entering Refusal} {x : EnterSaid} → enter_says y a ≡ x → enter_says y b ≡ x → a ≡ b
+  pub stepping : (y : Extractor) (f : List ℕ) {a b : Result Move Refusal} {p q : List ℕ} {x : StepSaid} → step_says y a f p ≡ x → step_says y b f q ≡ x
+      → (a ≡ b) × (p ≡ q)
+  pub spending : (y : Extractor) {a b : Result Extractor Refusal} {p q : List ℕ} {x : SpendSaid} → spend_says y a p ≡ x → spend_says y b q ≡ x
+      → (a ≡ b) × (p ≡ q)

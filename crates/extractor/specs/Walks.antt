@@ -1,11 +1,13 @@
 -- What the parts of a call that is not refused go by.
-use Rattle.std.specs.Prelude.{◌≡◌, List, Bool, true, ℕ, ◌≤◌, length, take, leb, ltb, eqb}
+use Rattle.std.specs.Prelude.{◌≡◌, List, ◌++◌, Bool, true, ℕ, ◌≤◌, length, take, leb, ltb, eqb, Option}
 use Rattle.octets.specs.Basics.{pick, and}
-use Rattle.frames.specs.Frame.{in_range, frame_length, pointer, heading}
+use Rattle.frames.specs.Frame.{in_range, frame_length}
 use Rattle.frames.specs.declared.Settings.{Settings}
-use Rattle.frames.specs.declared.Heading.{Heading}
-use Rattle.extractor.specs.Records.{holds_well, on_wheel}
-use Rattle.packets.specs.Packet.{Look, damaged, look}
+use Rattle.extractor.specs.Extract.{agreed, reason_by}
+use Rattle.extractor.specs.Records.{holds_well, on_wheel, is_in_step}
+use Rattle.extractor.specs.Answers.{reason_number, reason_damage}
+use Rattle.extractor.specs.declared.Reason.{Reason}
+use Rattle.packets.specs.Packet.{look, damage_in}
 use Rattle.packets.specs.Header.{seen}
 use Rattle.packets.specs.declared.Seen.{Seen}
 use Rattle.packets.specs.declared.Seen.TheVariants.{More, Damaged, Whole}
@@ -27,13 +29,9 @@ at_in (InStep last h) = 0
 at_in (Walking last h at) = at
 at_in (Leaving last) = 0
 
--- what the octets held say of their packet's length; damage of no number, where the store has fewer, which a call is refused for
-unfoldable pub held_look : Settings → List ℕ → ℕ → Look
-held_look s store h = pick (leb h (length store)) (look s.limit (take h store)) (damaged 0)
-
--- a reading of it
+-- what the octets held say of their packet's length, as many as the store has
 abbrev pub Says : Settings → List ℕ → ℕ → Seen → Type 0
-Says s store h r = seen r ≡ held_look s store h
+Says s store h r = seen r ≡ look s.limit (take h store)
 
 -- what octets say of their packet's length where n of them are at hand: a packet that is longer is not whole yet
 unfoldable pub at_hand : ℕ → Seen → Seen
@@ -61,10 +59,14 @@ at_rest (InStep last h) = InStep last h
 at_rest (Walking last h at) = Walking last h at
 at_rest (Leaving last) = Astray last
 
--- the frame's pointer
-abbrev pub PointsTo : Settings → List ℕ → ℕ → Type 0
-PointsTo s f p = p ≡ pointer s f
+-- a reason by its number, and what is wrong with a header that it names
+abbrev pub Named : Option Reason → ℕ → ℕ → Type 0
+Named r n d = (reason_number r ≡ n) × (reason_damage r ≡ d)
 
--- what the frame's header says
-abbrev pub Heads : Settings → List ℕ → Heading → Type 0
-Heads s f h = h ≡ heading s f
+-- what is wrong with the header of the octets held, where the reason of this number is that
+abbrev pub damage_by : Settings → ℕ → List ℕ → List ℕ → ℕ
+damage_by s n held zone = pick (eqb n 3) (damage_in (look s.limit (held ++ zone))) 0
+
+-- the number of the reason, by what is missing and by the pointer
+abbrev pub reason_for : Settings → Extractor → ℕ → List ℕ → ℕ → List ℕ → ℕ
+reason_for s x lost held p zone = pick (eqb lost 0) (pick (is_in_step x) (reason_by p (agreed s held zone)) 0) 1

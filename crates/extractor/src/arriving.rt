@@ -1,27 +1,22 @@
 // Entering a frame: what is lost before it, whether its pointer agrees with the octets held, and where its walk sets out.
-ghost use Rattle.std.specs.Prelude.{◌≡◌, take, ltb};
+ghost use Rattle.std.specs.Prelude.{◌≡◌, ◌≤◌, ◌++◌, eqb, ltb, is_some, unwrap_or};
 ghost use Rattle.octets.specs.Basics.{pick, first};
-ghost use Rattle.frames.specs.Frame.{no_start, count};
-ghost use Rattle.extractor.specs.Extract.{in_step, lost_since, reason_in, reason_of, damage_of};
-ghost use Rattle.extractor.specs.Records.{enter_rows, last_count, held_in, is_in_step, stands_for, set_off};
-ghost use Rattle.extractor.specs.Answers.{enter_says, entered_as};
-ghost use Rattle.extractor.specs.Walks.{Says, Walks, PointsTo, Heads};
+ghost use Rattle.packets.specs.Packet.{look, damage_in};
+ghost use Rattle.packets.specs.Header.{seen};
+ghost use Rattle.frames.specs.Frame.{no_start, heading as heading_told};
+ghost use Rattle.frames.specs.Shape.{tells};
+ghost use Rattle.extractor.specs.Extract.{lost_since, agreed, reason_by};
+ghost use Rattle.extractor.specs.Records.{enter_rows, last_count, held_in, is_in_step, set_off};
+ghost use Rattle.extractor.specs.Answers.{entering_says, entered_as};
+ghost use Rattle.extractor.specs.Walks.{Says, Named, damage_by, reason_for};
 
 use crate::held::{held_in, last_in, length_across};
-use crate::{Entered, Entering, Entry, Extractor};
+use crate::{Entering, Entry, Extractor, Reason};
 use frames::{Heading, IDLE_ZONE, NO_START, Settings, ZONE_AT};
-use packets::{Seen, damage};
-
-// Why the octets held are dropped, or that they are not.
-const KEPT: u8 = 0;
-
-const FRAMES_MISSING: u8 = 1;
-
-const POINTER_DIFFERS: u8 = 2;
-
-const HEADER_DAMAGED: u8 = 3;
+use packets::Seen;
 
 // How many frames are missing before the count.
+#[tactic(auto, unfolding(crate::specs::Extract::lost_since))]
 fn lost_since(s: Settings, x: Extractor, count: u32) -> u32
     ensures { result ≡ lost_since s (last_count x) count }
 {
@@ -35,13 +30,7 @@ fn lost_since(s: Settings, x: Extractor, count: u32) -> u32
 fn is_in_step(x: Extractor) -> bool
     ensures { result ≡ is_in_step x }
 {
-    match x {
-        Extractor::Fresh => false,
-        Extractor::Astray { .. } => false,
-        Extractor::InStep { .. } => true,
-        Extractor::Walking { .. } => true,
-        Extractor::Leaving { .. } => false,
-    }
+    matches!(x, Extractor::InStep { .. } | Extractor::Walking { .. })
 }
 
 // The pointer that agrees with a packet whose last octets end at `end`, seen from the zone's start.
@@ -52,108 +41,84 @@ fn next_start(zone: usize, end: usize) -> usize
 }
 
 // Why the octets held are dropped, by whether the pointer agrees with them.
-fn compared(agrees: bool) -> u8
-    ensures { result ≡ pick agrees 0 2 }
+fn compared(agrees: bool) -> Option<Reason>
+    ensures { Named result (pick agrees 0 2) 0 }
 {
-    if agrees { KEPT } else { POINTER_DIFFERS }
+    (!agrees).then_some(Reason::PointerDiffers)
 }
 
-// Why the octets held are dropped, by their header and the frame's pointer.
+// Why the octets held are dropped, by their header, which may end in the frame's zone, and its pointer.
+#[tactic(auto, unfolding(crate::specs::Extract::reason_by, crate::specs::Extract::agreed, crate::specs::Extract::agreed_look, packets::specs::Header::seen, packets::specs::Packet::damage_in))]
 fn pointer_reason(
     s: Settings,
-    held: usize,
     stated: Seen,
+    held: &[u8],
     pointer: usize,
-    store: &[u8],
-    frame: &[u8],
-) -> u8
-    requires walks { Walks s held 0 store.now frame.now }
-    requires points_to { PointsTo s frame.now pointer }
-    requires says { Says s store.now held stated }
-    ensures { result ≡ reason_in s (in_step (take held store.now)) frame.now }
+    zone: &[u8],
+) -> Option<Reason>
+    requires limit_least { 1 ≤ s.limit }
+    requires stated_value { seen stated ≡ look s.limit held.now }
+    ensures { Named result (reason_by pointer (agreed s held.now zone.now)) (damage_by s (reason_by pointer (agreed s held.now zone.now)) held.now zone.now) }
 {
-    if held == 0 {
+    if held.is_empty() {
         return compared((pointer == 0) | (pointer == IDLE_ZONE));
     }
-    match length_across(
-        s.limit,
-        stated,
-        store,
-        held,
-        frame,
-        ZONE_AT,
-        ZONE_AT + s.zone,
-    ) {
-        Seen::Damaged { .. } => HEADER_DAMAGED,
+    match length_across(s.limit, stated, held, zone) {
+        Seen::Damaged(damage) => Some(Reason::HeaderDamaged(damage)),
         Seen::More => compared(pointer == NO_START),
-        Seen::Whole { total } => compared(pointer == next_start(s.zone, octets::rest(total, held))),
+        Seen::Whole { total } => {
+            compared(pointer == next_start(s.zone, total.saturating_sub(held.len())))
+        }
     }
 }
 
-// Why they are dropped: the frames that are missing come first.
+// Why they are dropped: the frames that are missing come first, and out of step none are held.
 fn reason_of(
     s: Settings,
     x: Extractor,
-    stated: Seen,
     lost: u32,
+    stated: Seen,
+    held: &[u8],
     pointer: usize,
-    store: &[u8],
-    frame: &[u8],
-) -> u8
-    requires frame_value { first (enter_rows s x store.now frame.now) ≡ 0 }
-    requires lost_value { lost ≡ lost_since s (last_count x) (count s frame.now) }
-    requires points_to { PointsTo s frame.now pointer }
-    requires says { Says s store.now (held_in x) stated }
-    ensures { result ≡ reason_of s (stands_for store.now x) frame.now }
+    zone: &[u8],
+) -> Option<Reason>
+    requires limit_least { 1 ≤ s.limit }
+    requires stated_value { seen stated ≡ look s.limit held.now }
+    ensures { Named result (reason_for s x lost held.now pointer zone.now) (damage_by s (reason_for s x lost held.now pointer zone.now) held.now zone.now) }
 {
     if lost != 0 {
-        return FRAMES_MISSING;
+        return Some(Reason::FramesMissing);
     }
     if !is_in_step(x) {
-        return KEPT;
+        return None;
     }
-    pointer_reason(s, held_in(x), stated, pointer, store, frame)
-}
-
-// What is wrong with their header, where they are dropped for it.
-fn damage_of(s: Settings, x: Extractor, stated: Seen, reason: u8, store: &[u8], frame: &[u8]) -> u8
-    requires frame_value { first (enter_rows s x store.now frame.now) ≡ 0 }
-    requires says { Says s store.now (held_in x) stated }
-    requires reason_value { reason ≡ reason_of s (stands_for store.now x) frame.now }
-    ensures { result ≡ damage_of s (stands_for store.now x) frame.now }
-{
-    if reason != HEADER_DAMAGED {
-        return damage::NONE;
-    }
-    let to = ZONE_AT + s.zone;
-    packets::damage_in(length_across(s.limit, stated, store, held_in(x), frame, ZONE_AT, to))
+    pointer_reason(s, stated, held, pointer, zone)
 }
 
 // Where the walk sets out: in step with so many octets held, or out of step.
-fn set_off(s: Settings, count: u32, pointer: usize, in_step: bool, held: usize) -> Extractor
-    ensures { result ≡ set_off s count pointer in_step held }
+#[tactic(auto, unfolding(crate::specs::Records::set_off))]
+fn set_off(s: Settings, count: u32, pointer: usize, held: Option<usize>) -> Extractor
+    ensures { result ≡ set_off s count pointer (is_some held) (unwrap_or held 0) }
 {
     if pointer == IDLE_ZONE {
         return Extractor::Walking {
             last: count,
-            held,
+            held: held.unwrap_or(0),
             at: s.zone,
         };
     }
-    if in_step {
-        return Extractor::Walking {
+    match held {
+        Some(held) => Extractor::Walking {
             last: count,
             held,
             at: 0,
-        };
-    }
-    if pointer == NO_START {
-        return Extractor::Leaving { last: count };
-    }
-    Extractor::Walking {
-        last: count,
-        held: 0,
-        at: pointer,
+        },
+        None if pointer == NO_START => Extractor::Leaving { last: count },
+        None => Extractor::Walking {
+            last: count,
+            held: 0,
+            at: pointer,
+        },
     }
 }
 
@@ -167,40 +132,35 @@ pub(crate) fn taken(
     frame: &[u8],
 ) -> Entering
     requires frame_value { first (enter_rows s x store.now frame.now) ≡ 0 }
-    requires heads { Heads s frame.now heading }
+    requires heads { tells (Ok heading) ≡ heading_told s frame.now }
     requires says { Says s store.now (held_in x) stated }
-    ensures { enter_says result ≡ entered_as s x store.now frame.now }
+    ensures { entering_says result ≡ entered_as s x store.now frame.now }
 {
     let count = heading.count;
-    let replay = heading.replay;
     let pointer = heading.pointer as usize;
     let lost = lost_since(s, x, count);
-    let reason = reason_of(s, x, stated, lost, pointer, store, frame);
-    let held = held_in(x);
-    if reason == KEPT {
-        let entry = Entry {
-            count,
-            replay,
-            lost,
-            dropped: 0,
-            reason,
-            damage: damage::NONE,
-        };
+    let held = &store[..held_in(x)];
+    let zone = &frame[ZONE_AT..ZONE_AT + s.zone];
+    let reason = reason_of(s, x, lost, stated, held, pointer, zone);
+    let kept = Entry {
+        count,
+        replay: heading.replay,
+        lost,
+        dropped: 0,
+        reason,
+    };
+    if reason.is_none() {
+        let in_step = is_in_step(x).then_some(held.len());
         return Entering {
-            entered: Entered::Taken { entry },
-            next: set_off(s, count, pointer, is_in_step(x), held),
+            entry: kept,
+            next: set_off(s, count, pointer, in_step),
         };
     }
-    let entry = Entry {
-        count,
-        replay,
-        lost,
-        dropped: held,
-        reason,
-        damage: damage_of(s, x, stated, reason, store, frame),
-    };
     Entering {
-        entered: Entered::Taken { entry },
-        next: set_off(s, count, pointer, false, 0),
+        entry: Entry {
+            dropped: held.len(),
+            ..kept
+        },
+        next: set_off(s, count, pointer, None),
     }
 }

@@ -1,24 +1,24 @@
 // The extractor: frames in, packets out, call by call.
 #![tactic(auto)]
 
-ghost use Rattle.std.specs.Prelude.{◌≡◌, ℕ, List, [], length};
+ghost use Rattle.std.specs.Prelude.{◌≡◌, ℕ, List, []};
 ghost use Rattle.octets.specs.Basics.{first};
-ghost use Rattle.frames.specs.Frame.{heading_rows};
-ghost use Rattle.extractor.specs.Records.{checked, held_in, enter_rows, step_rows, shown};
-ghost use Rattle.extractor.specs.Answers.{enter_says, enter_answer, step_says, step_answer};
+ghost use Rattle.octets.specs.Refusals.{refusal_of};
+ghost use Rattle.extractor.specs.Records.{checked, held_in, step_rows, shown};
+ghost use Rattle.extractor.specs.Answers.{reason_number, enter_says, enter_answer, answered, step_says, step_answer};
 ghost use Rattle.extractor.specs.Calls.{spend_says, spend_answer};
 ghost use Rattle.extractor.specs.Walks.{Says};
 
-use frames::Settings;
-use octets::refusals;
-use packets::Seen;
+use frames::{Channel, Settings};
+use octets::Refusal;
+use packets::{Damage, Seen};
 
 mod arriving;
 mod held;
 mod walking;
 
 // What an extractor keeps between calls.
-#[derive(Clone, Copy)]
+#[derive(Clone, Copy, Debug, PartialEq, Eq)]
 pub enum Extractor {
     // No frame yet: out of step, and no last count.
     Fresh,
@@ -32,42 +32,50 @@ pub enum Extractor {
     Leaving { last: u32 },
 }
 
+// Why the octets held are dropped.
+#[derive(Clone, Copy, Debug, PartialEq, Eq)]
+pub enum Reason {
+    FramesMissing,
+    // The frame's pointer is not the one that agrees with them.
+    PointerDiffers,
+    // And what is wrong with their header.
+    HeaderDamaged(Damage),
+}
+
+impl Reason {
+    // Its number; 0 is none of them.
+    pub fn number(self) -> u8
+        ensures { result ≡ reason_number (Some self) }
+    {
+        match self {
+            Reason::FramesMissing => 1,
+            Reason::PointerDiffers => 2,
+            Reason::HeaderDamaged(_) => 3,
+        }
+    }
+}
+
 // What is said of a frame that is entered: its count and replay flag, how many frames are missing before it, how many of the
-// octets held are dropped, and why: 0 they are not, 1 frames are missing, 2 the pointer differs, 3 their header is damaged; and
-// with 3 what is wrong with it.
-#[derive(Clone, Copy)]
+// octets held are dropped, and why, if they are.
+#[derive(Clone, Copy, Debug, PartialEq, Eq)]
 pub struct Entry {
     pub count: u32,
     pub replay: u8,
     pub lost: u32,
     pub dropped: usize,
-    pub reason: u8,
-    pub damage: u8,
+    pub reason: Option<Reason>,
 }
 
-// What entering answers.
-#[derive(Clone, Copy)]
-pub enum Entered {
-    // The call is refused by this number.
-    Refused { refusal: u8 },
-    // The frame is entered.
-    Taken { entry: Entry },
-}
-
-// What entering answers, and the record after it.
-#[derive(Clone, Copy)]
+// What is said of a frame that is entered, and the record after it.
+#[derive(Clone, Copy, Debug, PartialEq, Eq)]
 pub struct Entering {
-    pub entered: Entered,
+    pub entry: Entry,
     pub next: Extractor,
 }
 
 // What a step finds.
-#[derive(Clone, Copy)]
+#[derive(Clone, Copy, Debug, PartialEq, Eq)]
 pub enum Found {
-    // Nothing: the call is refused by this number.
-    Refused {
-        refusal: u8,
-    },
     // A packet that lies in the frame.
     InFrame {
         start: usize,
@@ -80,131 +88,108 @@ pub enum Found {
         idle: bool,
     },
     // The rest of the zone is damaged: what is wrong with the header.
-    Damaged {
-        damage: u8,
-    },
+    Damaged(Damage),
     // Nothing more in this frame.
     Spent,
 }
 
 // What a step finds, and the record after it.
-#[derive(Clone, Copy)]
+#[derive(Clone, Copy, Debug, PartialEq, Eq)]
 pub struct Move {
     pub found: Found,
     pub next: Extractor,
 }
 
-// What spending a frame is refused for, 0 where it is not, and the record after it.
-#[derive(Clone, Copy)]
-pub struct Spending {
-    pub refusal: u8,
-    pub next: Extractor,
+// Refuses settings, and a store and a record whose octets held state this.
+#[tactic(auto, unfolding(octets::specs::Basics::first))]
+fn check(s: Settings, x: Extractor, stated: Seen, store: &[u8]) -> Result<(), Refusal>
+    requires { Says s store.now (held_in x) stated }
+    ensures { refusal_of result ≡ first (checked s x store.now []) }
+{
+    if !s.in_range() {
+        return Err(Refusal::Setting);
+    }
+    held::check(s, x, stated, store)
 }
 
-// The refusal of a record whose octets held state this, over a store of so many octets: what `record_refusal` answers.
-fn checked(s: Settings, x: Extractor, stated: Seen, room: usize) -> u8
-    ensures { (store : List ℕ) → room ≡ length store → Says s store (held_in x) stated → result ≡ first (checked s x store []) }
+// What any call with this record and store is refused for before it looks at the moment and the frame.
+pub fn record_refusal(s: Settings, x: Extractor, store: &[u8]) -> Result<(), Refusal>
+    ensures { refusal_of result ≡ first (checked s x store.now []) }
 {
-    if !frames::in_range(s) {
-        return refusals::SETTING;
-    }
-    held::refusal(s, x, stated, room)
-}
-
-// What any call with this record and store is refused for before it looks at the moment and the frame; 0 where it is not.
-pub fn record_refusal(s: Settings, x: Extractor, store: &[u8]) -> u8
-    ensures { result ≡ first (checked s x store.now []) }
-{
-    checked(s, x, held::stated(s, x, store), store.len())
-}
-
-// What entering is refused for, by what the frame's header is: settings out of range are its first refusal.
-fn enter_refusal(s: Settings, x: Extractor, stated: Seen, room: usize, head: u8) -> u8
-    ensures { (store f : List ℕ) → room ≡ length store → Says s store (held_in x) stated → head ≡ first (heading_rows s f) → result ≡ first (enter_rows s x store f) }
-{
-    if head == refusals::SETTING {
-        return refusals::SETTING;
-    }
-    let of_record = held::refusal(s, x, stated, room);
-    if of_record != 0 {
-        return of_record;
-    }
-    if held::is_entered(x) {
-        return refusals::MOMENT;
-    }
-    head
+    check(s, x, held::stated(s, x, store), store)
 }
 
 // Enters a frame: tells what was lost before it, compares its pointer, and sets out on its zone. The store is only read.
-pub fn enter(s: Settings, x: Extractor, store: &[u8], frame: &[u8]) -> Entering
-    ensures { enter_says result ≡ enter_answer s x store.now frame.now }
+pub fn enter(s: Settings, x: Extractor, store: &[u8], frame: &[u8]) -> Result<Entering, Refusal>
+    ensures { enter_says x result ≡ enter_answer s x store.now frame.now }
 {
-    let heading = frames::read_head(s, frame);
     let stated = held::stated(s, x, store);
-    let refusal = enter_refusal(s, x, stated, store.len(), heading.refusal);
-    if refusal != 0 {
-        return Entering {
-            entered: Entered::Refused { refusal },
-            next: x,
-        };
+    check(s, x, stated, store)?;
+    if held::is_entered(x) {
+        return Err(Refusal::Moment);
     }
-    arriving::taken(s, x, heading, stated, store, frame)
+    let heading = frames::read_head(s, frame)?;
+    Ok(arriving::taken(s, x, heading, stated, store, frame))
 }
 
-// What a step is refused for, with a frame of so many octets; 0 where for nothing.
-fn step_refusal(s: Settings, x: Extractor, stated: Seen, room: usize, len: usize) -> u8
-    ensures { (store f : List ℕ) → room ≡ length store → len ≡ length f → Says s store (held_in x) stated → result ≡ first (step_rows s x store f) }
+// Refuses a step.
+#[tactic(auto, unfolding(octets::specs::Basics::first, crate::specs::Records::step_rows, frames::specs::Frame::frame_length))]
+fn check_step(
+    s: Settings,
+    x: Extractor,
+    stated: Seen,
+    store: &[u8],
+    frame: &[u8],
+) -> Result<(), Refusal>
+    requires { Says s store.now (held_in x) stated }
+    ensures { refusal_of result ≡ first (step_rows s x store.now frame.now) }
 {
-    let of_record = checked(s, x, stated, room);
-    if of_record != 0 {
-        return of_record;
-    }
+    check(s, x, stated, store)?;
     if !held::is_entered(x) {
-        return refusals::MOMENT;
+        return Err(Refusal::Moment);
     }
-    if !frames::has_length(s, len) {
-        return refusals::LENGTH;
+    if !frames::has_length(s, frame.len()) {
+        return Err(Refusal::Length);
     }
-    0
+    Ok(())
 }
 
 // One step of the walk of a frame that is entered: the next packet, damage, or that the frame is spent.
-pub fn step(s: Settings, x: Extractor, store: &mut [u8], frame: &[u8]) -> Move
-    ensures { step_says result frame.now store.new ≡ step_answer s x store.old frame.now }
+#[tactic(auto, unfolding(crate::specs::Answers::step_answer, crate::specs::Records::step_call))]
+pub fn step(s: Settings, x: Extractor, store: &mut [u8], frame: &[u8]) -> Result<Move, Refusal>
+    ensures { step_says x result frame.now store.new ≡ step_answer s x store.old frame.now }
 {
     let stated = held::stated(s, x, store);
-    let refusal = step_refusal(s, x, stated, store.len(), frame.len());
-    if refusal != 0 {
-        return Move {
-            found: Found::Refused { refusal },
-            next: x,
-        };
-    }
-    walking::moved(s, x, stated, store, frame)
+    check_step(s, x, stated, store, frame)?;
+    Ok(walking::moved(s, x, stated, store, frame))
 }
 
-// Spends a frame that is entered: all its steps, and nothing told of what they find.
-pub fn spend(s: Settings, x: Extractor, store: &mut [u8], frame: &[u8]) -> Spending
-    ensures { spend_says result store.new ≡ spend_answer s x store.old frame.now }
+// Spends a frame that is entered: all its steps, and nothing told of what they find. The record after the last one.
+#[tactic(auto, unfolding(crate::specs::Calls::spend_answer))]
+pub fn spend(
+    s: Settings,
+    x: Extractor,
+    store: &mut [u8],
+    frame: &[u8],
+) -> Result<Extractor, Refusal>
+    ensures { spend_says x result store.new ≡ spend_answer s x store.old frame.now }
 {
     let stated = held::stated(s, x, store);
-    let refusal = step_refusal(s, x, stated, store.len(), frame.len());
-    if refusal != 0 {
-        return Spending { refusal, next: x };
-    }
-    let next = walking::spent(s, x, stated, store, frame);
-    Spending { refusal, next }
+    check_step(s, x, stated, store, frame)?;
+    Ok(walking::spent(s, x, stated, store, frame))
 }
 
 // The part of the frame or of the store that a step's answer names; an empty part where it names none.
-pub fn show<'a>(frame: &'a [u8], store: &'a [u8], found: Found) -> &'a [u8]
-    ensures { result.now ≡ shown frame.now store.now found }
+#[tactic(auto, unfolding(crate::specs::Records::shown))]
+pub fn show<'a>(frame: &'a [u8], store: &'a [u8], step: Result<Move, Refusal>) -> &'a [u8]
+    ensures { result.now ≡ shown frame.now store.now (answered step) }
 {
-    match found {
+    let Ok(step) = step else {
+        return &frame[..0];
+    };
+    match step.found {
         Found::InFrame { start, size, .. } => octets::part(frame, start, size),
         Found::InStore { size, .. } => octets::part(store, 0, size),
-        Found::Refused { .. } => octets::part(frame, 0, 0),
-        Found::Damaged { .. } => octets::part(frame, 0, 0),
-        Found::Spent => octets::part(frame, 0, 0),
+        Found::Damaged(_) | Found::Spent => &frame[..0],
     }
 }

@@ -1,38 +1,35 @@
 // The walk of a frame's zone, a step at a time.
-ghost use Rattle.std.specs.Prelude.{◌≡◌, ◌+◌, ◌-◌, ◌≤◌, length, take, drop};
+ghost use Rattle.std.specs.Prelude.{◌≡◌, ◌+◌, ◌≤◌, length};
 ghost use Rattle.octets.specs.Basics.{first};
 ghost use Rattle.extractor.specs.Records.{step_rows, step, kept_for_later, held_in};
-ghost use Rattle.extractor.specs.Answers.{stepped};
+ghost use Rattle.extractor.specs.Answers.{move_says};
 ghost use Rattle.extractor.specs.Calls.{through};
 ghost use Rattle.extractor.specs.Walks.{Says, Walks, at_rest};
 
 use crate::held::{at_hand, length_across};
 use crate::{Extractor, Found, Move};
 use frames::{Settings, ZONE_AT};
-use packets::Seen;
+use packets::{Damage, Seen};
 
-// The frame's octets from `from` up to `to` join those held.
-fn keep(last: u32, held: usize, store: &mut [u8], frame: &[u8], from: usize, to: usize) -> Move
-    requires from_le_to { (from ≤ to) × (to ≤ length frame.now) }
-    requires from_in_bounds { held + (to - from) ≤ length store.old }
-    ensures { stepped result store.new ≡ kept_for_later store.old last held (take (to - from) (drop from frame.now)) }
+// The octets that are left of the zone join those held.
+fn keep(last: u32, held: usize, store: &mut [u8], left: &[u8]) -> Move
+    requires { held + length left.now ≤ length store.old }
+    ensures { move_says result store.new ≡ kept_for_later store.old last held left.now }
 {
-    octets::lay(store, held, frame, from, to);
+    let to = held + left.len();
+    store[held..to].copy_from_slice(left);
     Move {
         found: Found::Spent,
-        next: Extractor::InStep {
-            last,
-            held: held + (to - from),
-        },
+        next: Extractor::InStep { last, held: to },
     }
 }
 
 // The rest of the zone is abandoned.
-fn abandoned(last: u32, damage: u8) -> Move
+fn abandoned(last: u32, damage: Damage) -> Move
     ensures { (result.found ≡ Found.Damaged damage) × (result.next ≡ Extractor.Leaving last) }
 {
     Move {
-        found: Found::Damaged { damage },
+        found: Found::Damaged(damage),
         next: Extractor::Leaving { last },
     }
 }
@@ -47,14 +44,14 @@ fn onward(last: u32, at: usize) -> Extractor
 // A step with nothing held: the next packet is shown where it lies, or what is left of the zone is kept.
 fn walk(s: Settings, last: u32, at: usize, store: &mut [u8], frame: &[u8]) -> Move
     requires { Walks s 0 at store.old frame.now }
-    ensures { stepped result store.new ≡ step s frame.now store.old (Extractor.Walking last 0 at) }
+    ensures { move_says result store.new ≡ step s frame.now store.old (Extractor.Walking last 0 at) }
 {
     let from = ZONE_AT + at;
     let to = ZONE_AT + s.zone;
     let left = &frame[from..to];
-    match at_hand(to - from, packets::read_length(s.limit, left)) {
-        Seen::Damaged { damage } => abandoned(last, damage),
-        Seen::More => keep(last, 0, store, frame, from, to),
+    match at_hand(left.len(), packets::read_length(s.limit, left)) {
+        Seen::Damaged(damage) => abandoned(last, damage),
+        Seen::More => keep(last, 0, store, left),
         Seen::Whole { total } => {
             let found = Found::InFrame {
                 start: from,
@@ -78,16 +75,17 @@ fn complete(
 ) -> Move
     requires walks { Walks s held 0 store.old frame.now × (held ≡ 0 → ⊥) }
     requires says { Says s store.old held stated }
-    ensures { stepped result store.new ≡ step s frame.now store.old (Extractor.Walking last held 0) }
+    ensures { move_says result store.new ≡ step s frame.now store.old (Extractor.Walking last held 0) }
 {
-    let to = ZONE_AT + s.zone;
-    let length = length_across(s.limit, stated, store, held, frame, ZONE_AT, to);
+    let zone = &frame[ZONE_AT..ZONE_AT + s.zone];
+    let length = length_across(s.limit, stated, &store[..held], zone);
     match at_hand(held + s.zone, length) {
-        Seen::Damaged { damage } => abandoned(last, damage),
-        Seen::More => keep(last, held, store, frame, ZONE_AT, to),
+        Seen::Damaged(damage) => abandoned(last, damage),
+        Seen::More => keep(last, held, store, zone),
         Seen::Whole { total } => {
-            let rest = octets::rest(total, held);
-            octets::lay(store, held, frame, ZONE_AT, ZONE_AT + rest);
+            let rest = total.saturating_sub(held);
+            let end = held + rest;
+            store[held..end].copy_from_slice(&zone[..rest]);
             let found = Found::InStore {
                 size: total,
                 idle: packets::is_idle(store),
@@ -102,17 +100,17 @@ fn complete(
 fn at_rest(x: Extractor) -> Extractor
     ensures { result ≡ at_rest x }
 {
-    let Extractor::Leaving { last } = x else {
-        return x;
-    };
-    Extractor::Astray { last }
+    match x {
+        Extractor::Leaving { last } => Extractor::Astray { last },
+        _ => x,
+    }
 }
 
 // One step of a call that is not refused.
 pub(crate) fn moved(s: Settings, x: Extractor, stated: Seen, store: &mut [u8], frame: &[u8]) -> Move
     requires frame_value { first (step_rows s x store.old frame.now) ≡ 0 }
     requires says { Says s store.old (held_in x) stated }
-    ensures { stepped result store.new ≡ step s frame.now store.old x }
+    ensures { move_says result store.new ≡ step s frame.now store.old x }
 {
     let Extractor::Walking { last, held, at } = x else {
         return Move {
@@ -124,23 +122,6 @@ pub(crate) fn moved(s: Settings, x: Extractor, stated: Seen, store: &mut [u8], f
         return walk(s, last, at, store, frame);
     }
     complete(s, last, held, stated, store, frame)
-}
-
-// All the steps from `at` on, with nothing held: the record after the last one.
-fn walk_out(s: Settings, last: u32, at: usize, store: &mut [u8], frame: &[u8]) -> Extractor
-    requires { first (step_rows s (Extractor.Walking last 0 at) store.old frame.now) ≡ 0 }
-    ensures value { result ≡ (through s frame.now (Extractor.Walking last 0 at) store.old).next }
-    ensures store_after { store.new ≡ (through s frame.now (Extractor.Walking last 0 at) store.old).store }
-{
-    let mut from = at;
-    loop {
-        let step = walk(s, last, from, store, frame);
-        let next = step.next;
-        let Extractor::Walking { at, .. } = next else {
-            return at_rest(next);
-        };
-        from = at;
-    }
 }
 
 // All the steps of a call that is not refused: octets are held before the first one alone.
@@ -156,16 +137,9 @@ pub(crate) fn spent(
     ensures value { result ≡ (through s frame.now x store.old).next }
     ensures store_after { store.new ≡ (through s frame.now x store.old).store }
 {
-    let Extractor::Walking { last, held, at } = x else {
-        return at_rest(x);
-    };
-    if held == 0 {
-        return walk_out(s, last, at, store, frame);
+    let mut next = moved(s, x, stated, store, frame).next;
+    while let Extractor::Walking { last, at, .. } = next {
+        next = walk(s, last, at, store, frame).next;
     }
-    let step = complete(s, last, held, stated, store, frame);
-    let next = step.next;
-    let Extractor::Walking { at, .. } = next else {
-        return at_rest(next);
-    };
-    walk_out(s, last, at, store, frame)
+    at_rest(next)
 }

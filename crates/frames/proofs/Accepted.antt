@@ -10,7 +10,7 @@ use Rattle.octets.proofs.Tests.{test}
 use Rattle.frames.specs.Link.{zone_at, zone_head}
 use Rattle.frames.specs.Frame.{idle_zone, no_start, in_range, packet_shape, frame_length, frame_rows, zone_of, count, replay, pointer, unused, heading_rows, heading, heading_of}
 use Rattle.frames.specs.declared.Settings.{Settings}
-use Rattle.frames.specs.declared.Heading.{Heading}
+use Rattle.frames.specs.Shape.{Heading}
 use Rattle.frames.proofs.Rows.{sound_frame}
 
 pub length_zone : (s : Settings) (f : List ℕ) → length f ≡ frame_length s → length (zone_of s f) ≡ s.zone

@@ -8,16 +8,15 @@ use Rattle.words.specs.Fields.{field, read}
 use Rattle.trailer.specs.Trailer.{wrong}
 use Rattle.frames.specs.Edition.{seven_place, signals}
 use Rattle.frames.specs.Link.{version_place, spacecraft_place, channel_place, primary, zone_head, header_rows, written_rows, count_width}
-use Rattle.frames.specs.Shape.{shape_length, spare_above, pointer_at, shape_unused, shape_rows, heading_of}
+use Rattle.frames.specs.Shape.{Shape, shape_length, spare_above, pointer_at, shape_unused, shape_rows, heading_of}
 use Rattle.frames.specs.Frame.{in_range, packet_shape, frame_length, frame_rows, heading_rows, unused, head_rows}
 use Rattle.frames.specs.BitFrame.{bits_in_range, bits_shape, bit_frame_length, bit_frame_rows, bit_heading_rows, bit_heading, bit_unused, bit_head_rows}
 use Rattle.frames.specs.Editions.{right_octet, by_octets, RefusedBy, OnWheel}
 use Rattle.frames.specs.declared.Edition.{Edition}
 use Rattle.frames.specs.declared.Edition.TheVariants.{Former, CycleUnused, CycleUsed}
-use Rattle.frames.specs.declared.Heading.{Heading}
+use Rattle.frames.specs.Shape.{Heading}
 use Rattle.frames.specs.declared.Link.{Link}
 use Rattle.frames.specs.declared.bits.BitSettings.{BitSettings}
-use Rattle.frames.specs.declared.shape.Shape.{Shape}
 use Rattle.frames.proofs.Accepted.{heading_refusal}
 use Rattle.frames.proofs.Signals.{same_signals, used_flags}
 

@@ -1,8 +1,8 @@
 -- What a header says, with the numbers as the code reads them.
 -- Assumes nothing.
-use Rattle.std.proofs.Common.{◌≡◌, ℕ, suc, ◌-◌, ◌^◌, ◌<◌, ◌≤◌, Bool, true, not, eqb, ltb, List, ◌∷◌, length, sym, refl, ◌∙◌, le_refl, arith, pow_mono, le-ltb, lt-ltb, eq-eqb, ne_eqb}
+use Rattle.std.proofs.Common.{◌≡◌, ℕ, suc, ◌-◌, ◌^◌, ◌<◌, ◌≤◌, eqb, ltb, List, length, sym, refl, ◌∙◌, le_refl, arith, pow_mono, le-ltb, lt-ltb, eq-eqb, ne_eqb}
 use native.Mathlib.Nat.{zero-mod}
-use Rattle.octets.specs.Basics.{number_at, row, first}
+use Rattle.octets.specs.Basics.{number_at, first}
 use Rattle.words.specs.Fields.{field, placed}
 use Rattle.octets.proofs.Choices.{split}
 use Rattle.octets.proofs.Tests.{test}
@@ -10,10 +10,8 @@ use Rattle.words.proofs.Fields.{above_past, field_rest, field_lt, foot_lt, foot_
 use Rattle.octets.proofs.Numbers.{number_within}
 use Rattle.trailer.specs.Trailer.{wrong}
 use Rattle.frames.specs.Link.{primary, zone_head}
-use Rattle.frames.specs.Shape.{shape_length, both_rows, outer_rows, shape_rows, no_heading, heading_of, heading_by, shape_heading}
+use Rattle.frames.specs.Shape.{Shape, shape_length, both_rows, outer_rows, shape_rows, no_heading, heading_of, heading_by, shape_heading}
 use Rattle.frames.specs.declared.Link.{Link}
-use Rattle.frames.specs.declared.Heading.{Heading}
-use Rattle.frames.specs.declared.shape.Shape.{Shape}
 use Rattle.frames.proofs.Rows.{sound_before}
 
 -- a number is its own foot where it has no bit above it
@@ -50,12 +48,6 @@ module _ (l : Link) (f : List ℕ) (room : 8 ≤ length f) where
   zone_head_at : number_at 2 6 f ≡ zone_head l f
   unfolding zone_head
   zone_head_at = number_within 2 6 f room
-
--- with settings in range, what the shape says
-pub heading_ranged : (h : Shape) (f : List ℕ) {settled : Bool} {g : Shape} {r : Heading} → settled ≡ true → g ≡ h → r ≡ shape_heading g (shape_rows g f) f
-    → r ≡ shape_heading h (row 1 (not settled) ∷ shape_rows h f) f
-unfolding first
-heading_ranged h f ranged e q = rw e at q ∙ rw ranged refl
 
 -- a refusal before the headers is the frame's
 pub outer_refused : (h : Shape) (f : List ℕ) {n : ℕ} → n ≡ first (outer_rows h f) → (n ≡ 0 → ⊥) → no_heading n ≡ shape_heading h (shape_rows h f) f

@@ -4,11 +4,10 @@ use Rattle.std.proofs.Common.{◌≡◌, ℕ, ◌+◌, ◌^◌, ◌<◌, ◌≤�
 use Rattle.octets.specs.Basics.{octets, over, laid, first}
 use Rattle.octets.proofs.Written.{laid_within, length-octets, length_over, over_over}
 use Rattle.frames.specs.Link.{head_word, headers, written_rows, count_width}
-use Rattle.frames.specs.Shape.{shape_unused, shape_head_rows}
+use Rattle.frames.specs.Shape.{Shape, shape_unused, shape_head_rows}
 use Rattle.frames.specs.Frame.{in_range, packet_shape, unused, head_rows}
 use Rattle.frames.specs.declared.Link.{Link}
 use Rattle.frames.specs.declared.Settings.{Settings}
-use Rattle.frames.specs.declared.shape.Shape.{Shape}
 
 -- two parts laid one after the other
 two_parts : (d a b : List ℕ) (n m : ℕ) → length a ≡ n → length b ≡ m → n + m ≤ length d → laid (laid d 0 a) n b ≡ over d 0 (a ++ b)

@@ -11,13 +11,12 @@ use Rattle.trailer.specs.Trailer.{sent, wrong}
 use Rattle.trailer.proofs.Setting.{right_sent}
 use Rattle.frames.specs.Edition.{own_width, count_place, replay_place, cycle_width, cycle_at, count_in, signals, signalling}
 use Rattle.frames.specs.Link.{head_word, headers, around, primary, zone_head, version_place, spacecraft_place, channel_place, count_width}
-use Rattle.frames.specs.Shape.{shape_length, shape_zone, pointer_at, spare_above, shape_unused, shape_rows, word_of}
+use Rattle.frames.specs.Shape.{Shape, shape_length, shape_zone, pointer_at, spare_above, shape_unused, shape_rows, word_of}
 use Rattle.frames.specs.Frame.{in_range, packet_shape, frame_rows, zone_of, count, replay, zone_spare_place, pointer, pointer_place, pointer_word, head}
 use Rattle.frames.specs.Statements.{HeadersBack}
 use Rattle.frames.specs.declared.Edition.{Edition}
 use Rattle.frames.specs.declared.Link.{Link}
 use Rattle.frames.specs.declared.Settings.{Settings}
-use Rattle.frames.specs.declared.shape.Shape.{Shape}
 use Rattle.frames.proofs.Rows.{SoundHeader, header_taken, sound_frame}
 use Rattle.frames.proofs.Settled.{Linked, settled}
 use Rattle.frames.proofs.Signals.{Signalled, signalled_by, signals_by, signals_agree, signalling_lt, signalling_within, cycle_narrow, replay_in, usage_in, spare_in, no_cycle_in, cycle_in, count_own, count_cycle, count_again}

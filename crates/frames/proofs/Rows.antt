@@ -8,9 +8,8 @@ use Rattle.octets.proofs.Choices.{and_true, none_holds}
 use Rattle.trailer.specs.Trailer.{wrong}
 use Rattle.frames.specs.Edition.{signals}
 use Rattle.frames.specs.Link.{primary, zone_head, header_rows, version_place, spacecraft_place, channel_place}
-use Rattle.frames.specs.Shape.{shape_length, spare_above, pointer_at, shape_unused, outer_rows, shape_rows}
+use Rattle.frames.specs.Shape.{Shape, shape_length, spare_above, pointer_at, shape_unused, outer_rows, shape_rows}
 use Rattle.frames.specs.declared.Link.{Link}
-use Rattle.frames.specs.declared.shape.Shape.{Shape}
 
 -- where the row of the settings stands above, it need not stand again
 pub settled_once : (settled : Bool) (rows : List Row) (between : ℕ → ℕ)

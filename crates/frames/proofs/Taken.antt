@@ -5,12 +5,11 @@ use Rattle.octets.specs.Basics.{first}
 use Rattle.trailer.specs.Trailer.{sent}
 use Rattle.trailer.proofs.Setting.{length-sent, sent_front, sent_right}
 use Rattle.frames.specs.Link.{count_width, headers}
-use Rattle.frames.specs.Shape.{shape_length, spare_above, pointer_at, shape_unused, shape_rows, heading_of, shape_heading, word_of}
+use Rattle.frames.specs.Shape.{Shape, shape_length, spare_above, pointer_at, shape_unused, shape_rows, heading_of, shape_heading, word_of}
 use Rattle.frames.specs.Frame.{packet_shape, frame_rows, heading_rows, heading, unused}
 use Rattle.frames.specs.BitFrame.{bits_shape, bit_frame_rows, bit_heading_rows, bit_heading, bit_unused}
 use Rattle.frames.specs.Statements.{HeadersBack}
 use Rattle.frames.specs.Editions.{Taken}
-use Rattle.frames.specs.declared.shape.Shape.{Shape}
 use Rattle.frames.proofs.Settled.{Linked, settled}
 use Rattle.frames.proofs.ReadBack.{length-headers, headers_back, shape_taken}
 use Rattle.frames.proofs.bits.Settled.{bits_settled}

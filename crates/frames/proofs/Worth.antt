@@ -8,11 +8,10 @@ use Rattle.trailer.proofs.Setting.{extra_small}
 use Rattle.trailer.proofs.Bursts.{bursts_seen}
 use Rattle.trailer.proofs.Odd.{odd_seen}
 use Rattle.trailer.proofs.Few.{few_seen}
-use Rattle.frames.specs.Shape.{shape_length, shape_rows}
+use Rattle.frames.specs.Shape.{Shape, shape_length, shape_rows}
 use Rattle.frames.specs.Frame.{packet_shape, frame_length, frame_rows}
 use Rattle.frames.specs.BitFrame.{bits_shape, bit_frame_length, bit_frame_rows}
 use Rattle.frames.specs.Worth.{Seen, Worth}
-use Rattle.frames.specs.declared.shape.Shape.{Shape}
 use Rattle.frames.proofs.Settled.{settled}
 use Rattle.frames.proofs.bits.Settled.{bits_settled}
 

@@ -5,10 +5,9 @@ use Rattle.words.specs.Fields.{read}
 use Rattle.words.specs.declared.Place.{Place}
 use Rattle.frames.specs.Edition.{replay_place, count_in}
 use Rattle.frames.specs.Link.{link_in_range, primary, zone_head}
-use Rattle.frames.specs.Shape.{shape_length, shape_zone, pointer_at, spare_above, shape_unused, shape_rows, shape_heading, word_of, shape_head, shape_head_rows}
+use Rattle.frames.specs.Shape.{Shape, shape_length, shape_zone, pointer_at, spare_above, shape_unused, shape_rows, shape_heading, word_of, shape_head, shape_head_rows}
 use Rattle.frames.specs.declared.bits.BitSettings.{BitSettings}
-use Rattle.frames.specs.declared.Heading.{Heading}
-use Rattle.frames.specs.declared.shape.Shape.{Shape}
+use Rattle.frames.specs.Shape.{Heading}
 
 -- the pointers that are no place: a zone of fill alone, and one whose bits are all valid
 abbrev pub fill_only : ℕ

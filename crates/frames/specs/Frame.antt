@@ -5,11 +5,10 @@ use Rattle.words.specs.Fields.{read}
 use Rattle.words.specs.declared.Place.{Place}
 use Rattle.frames.specs.Edition.{replay_place, count_in, signals}
 use Rattle.frames.specs.Link.{link_in_range, primary, zone_head, version_place, spacecraft_place, channel_place}
-use Rattle.frames.specs.Shape.{shape_length, shape_zone, pointer_at, spare_above, shape_unused, shape_rows, shape_heading, word_of, shape_head, shape_head_rows}
+use Rattle.frames.specs.Shape.{Shape, shape_length, shape_zone, pointer_at, spare_above, shape_unused, shape_rows, shape_heading, word_of, shape_head, shape_head_rows}
 unfoldable pub use Rattle.frames.specs.Shape.{no_heading, heading_of}
 use Rattle.frames.specs.declared.Settings.{Settings}
-use Rattle.frames.specs.declared.Heading.{Heading}
-use Rattle.frames.specs.declared.shape.Shape.{Shape}
+use Rattle.frames.specs.Shape.{Heading}
 
 -- the pointers that are no offset
 abbrev pub idle_zone : ℕ

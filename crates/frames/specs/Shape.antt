@@ -1,21 +1,27 @@
--- The frames of both channels, over the shape in which they differ: the link, the octets of the zone (`size`), the bits of the pointer
--- (`width`), and the first and the last pointer that is not used (`beyond` and `last`).
-use Rattle.std.specs.Prelude.{ℕ, ◌+◌, ◌-◌, ◌^◌, Bool, not, List, [], ◌∷◌, ◌++◌, length, take, drop, ◌==◌, nat_le, nat_lt}
+-- The frames of both channels, over the shape in which they differ.
+use Rattle.std.specs.Prelude.{ℕ, ◌+◌, ◌-◌, ◌^◌, Bool, not, List, [], ◌∷◌, ◌++◌, length, take, drop, ◌==◌, nat_le, nat_lt, Result, Ok, Err}
 use Rattle.octets.specs.Basics.{pick, and, Row, row, first}
+use Rattle.octets.specs.Refusals.{number_of}
+use Rattle.octets.specs.declared.refusals.Refusal.{Refusal}
 use Rattle.words.specs.Fields.{read, write}
 use Rattle.words.specs.declared.Place.{Place}
 use Rattle.frames.specs.Edition.{replay_place, count_in}
 use Rattle.frames.specs.Link.{zone_at, around, trailer_row, primary, zone_head, header_rows, written_rows, headers}
 use Rattle.frames.specs.declared.Link.{Link}
-use Rattle.frames.specs.declared.Heading.{Heading}
-use Rattle.frames.specs.declared.shape.Shape.{Shape}
+use Rattle.frames.specs.declared.Heading as read
+
+-- the link; the octets of the zone; the bits of the pointer, which has the spare bits of the zone's header above it; and the pointers
+-- that are not used, from the first beyond the zone to the last
+pub record Shape : Type 0 where
+  pub link : Link
+  pub size : ℕ
+  pub width : ℕ
+  pub beyond : ℕ
+  pub last : ℕ
 
 -- the octets of a frame are its zone's and those around it
-abbrev pub octets_of : Link → ℕ → ℕ
-octets_of l size = size + around l
-
 abbrev pub shape_length : Shape → ℕ
-shape_length h = octets_of h.link h.size
+shape_length h = h.size + around h.link
 
 -- the zone begins behind the headers, and has so many octets
 abbrev pub shape_zone : Shape → List ℕ → List ℕ
@@ -45,9 +51,25 @@ outer_rows h f = row 3 (not (length f == shape_length h)) ∷ trailer_row h.link
 abbrev pub shape_rows : Shape → List ℕ → List Row
 shape_rows h f = outer_rows h f ++ both_rows h (primary h.link f) (zone_head h.link f)
 
+-- the same of a header that is read, with the settings before all else
+abbrev pub shape_heading_rows : Bool → Shape → List ℕ → List Row
+shape_heading_rows settled h f = row 1 (not settled) ∷ shape_rows h f
+
+-- what reading a header answers: the refusal, or 0, and what the header says, all 0 on a refusal
+pub record Heading : Type 0 where
+  pub refusal : ℕ
+  pub count : ℕ
+  pub replay : ℕ
+  pub pointer : ℕ
+
 -- a refusal alone
 abbrev pub no_heading : ℕ → Heading
 no_heading refusal = record { refusal = refusal; count = 0; replay = 0; pointer = 0 }
+
+-- an answer in numbers
+abbrev pub tells : Result read.Heading Refusal → Heading
+tells (Err refusal) = no_heading (number_of refusal)
+tells (Ok h) = record { refusal = 0; count = h.count; replay = h.replay; pointer = h.pointer }
 
 -- what a header says, where it is not refused; else the refusal alone
 unfoldable pub heading_of : ℕ → ℕ → ℕ → ℕ → Heading

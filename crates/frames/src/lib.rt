@@ -1,19 +1,17 @@
 // Frames: the settings of a channel, a frame's header read and written, and the wheel of its count.
 #![tactic(auto)]
 
-ghost use Rattle.std.specs.Prelude.{◌≡◌, ◌^◌, ◌==◌, nat_lt};
-ghost use Rattle.octets.specs.Basics.{pick, first, over};
+ghost use Rattle.std.specs.Prelude.{◌≡◌, ◌^◌, refl};
 ghost use Rattle.frames.specs.Link.{link_in_range, count_width, next_count, missing};
-ghost use Rattle.frames.specs.Frame.{in_range, frame_length, packet_shape, heading, head, head_rows};
+ghost use Rattle.frames.specs.Frame.{in_range, packet_shape};
 
-use octets::{limits, refusals};
-use shape::Shape;
+use octets::limits;
 
 pub mod bits;
-mod shape;
+mod channel;
 mod signal;
 
-pub use shape::around;
+pub use channel::{Channel, around, has_length, is_short, read_head, write_head};
 
 // The edition of the frame header that a link follows, which says what stands below the replay flag.
 #[derive(Clone, Copy)]
@@ -44,10 +42,9 @@ pub struct Settings {
     pub fill: u8,
 }
 
-// What the header of a frame says, or the number that the frame is refused for; then all else is 0.
-#[derive(Clone, Copy)]
+// What the header of a frame says.
+#[derive(Clone, Copy, Debug, PartialEq, Eq)]
 pub struct Heading {
-    pub refusal: u8,
     pub count: u32,
     pub replay: u8,
     pub pointer: u16,
@@ -67,97 +64,67 @@ pub const MOST_FRAMES: u32 = 16777216;
 // A zone has so many octets at most.
 const MOST_ZONE: usize = 2046;
 
-// The bits of the pointer.
-const POINTER_WIDTH: u32 = 11;
-
 // The last pointer that is not used.
-const LAST_UNUSED: u64 = 2045;
+const LAST_UNUSED: u16 = 2045;
 
-pub(crate) fn link_in_range(l: Link) -> bool
-    ensures { result ≡ link_in_range l }
-{
-    (l.spacecraft <= 255) & (l.channel <= 62)
-}
-
-pub fn in_range(s: Settings) -> bool
-    ensures { result ≡ in_range s }
-{
-    let limit = (s.zone <= s.limit) & ((limits::LEAST <= s.limit) & (s.limit <= limits::MOST));
-    link_in_range(s.link) & ((1 <= s.zone) & ((s.zone <= MOST_ZONE) & limit))
-}
-
-// The shape of a packet channel's frames: the first pointer beyond the zone is Z.
-fn shape_of(s: Settings) -> Shape
-    ensures { result ≡ packet_shape s }
-{
-    let link = s.link;
-    Shape {
-        link,
-        size: s.zone,
-        width: POINTER_WIDTH,
-        beyond: s.zone as u64,
-        last: LAST_UNUSED,
+impl Link {
+    // Whether the spacecraft and the channel are in range.
+    pub(crate) fn in_range(self) -> bool
+        ensures { result ≡ link_in_range self }
+    {
+        (self.spacecraft <= 255) & (self.channel <= 62)
     }
 }
 
-// Whether a frame of these settings has so many octets.
-pub fn has_length(s: Settings, len: usize) -> bool
-    ensures { result ≡ (len == frame_length s) }
-{
-    shape::has_length(s.link, s.zone, len)
-}
+impl Channel for Settings {
+    const POINTER_WIDTH: u32 = 11;
 
-// Whether so many octets are less than a frame of these settings.
-pub fn is_short(s: Settings, len: usize) -> bool
-    ensures { result ≡ nat_lt len (frame_length s) }
-{
-    shape::is_short(s.link, s.zone, len)
-}
+    ghost POINTER_WIDTH = { 11 };
 
-// What the header of a frame says, or what the frame is refused for.
-pub fn read_head(s: Settings, frame: &[u8]) -> Heading
-    ensures { result ≡ heading s frame.now }
-{
-    if !in_range(s) {
-        return shape::refused(refusals::SETTING);
-    }
-    let h = shape_of(s);
-    let refusal = shape::outer_refusal(h, frame);
-    if refusal != 0 {
-        return shape::refused(refusal);
-    }
-    shape::read_headers(h, frame)
-}
+    ghost in_range = { in_range };
 
-// Writes both headers of the frame with this count and pointer at the front of buf; nothing, and the row's number, where it is refused.
-pub fn write_head(s: Settings, count: u32, pointer: u16, buf: &mut [u8]) -> u8
-    ensures value { result ≡ first (head_rows s count pointer buf.old) }
-    ensures buf_after { buf.new ≡ pick (result == 0) (over buf.old 0 (head s count pointer)) buf.old }
-{
-    if !in_range(s) {
-        return refusals::SETTING;
+    ghost shape = { packet_shape };
+
+    fn in_range(self) -> bool {
+        let limit = (self.zone <= self.limit)
+            & ((limits::LEAST <= self.limit) & (self.limit <= limits::MOST));
+        self.link.in_range() & ((1 <= self.zone) & ((self.zone <= MOST_ZONE) & limit))
     }
-    shape::write_head(shape_of(s), count, pointer, buf)
+
+    fn link(self) -> Link {
+        self.link
+    }
+
+    fn zone_length(self) -> usize {
+        self.zone
+    }
+
+    // The first pointer beyond the zone is Z.
+    fn is_unused(self, pointer: u16) -> bool {
+        (self.zone <= pointer as usize) & (pointer <= LAST_UNUSED)
+    }
+
+    ghost has_width = { λ s. refl };
 }
 
 // So many counts are on the wheel of a link.
 pub fn wheel_of(l: Link) -> u32
     ensures { result ≡ 2 ^ count_width l }
 {
-    1 << signal::count_width(l)
+    1 << l.count_width()
 }
 
 // The count after this one, round the wheel.
 pub fn next_count(l: Link, count: u32) -> u32
     ensures { result ≡ next_count (count_width l) count }
 {
-    std::num::wrapping_add_u32(count, 1) % wheel_of(l)
+    count.wrapping_add(1) % wheel_of(l)
 }
 
 // How many frames are missing between the counts `last` and c, round the wheel.
 pub fn missing(l: Link, last: u32, c: u32) -> u32
     ensures { result ≡ missing (count_width l) last c }
 {
-    let since = std::num::wrapping_sub_u32(c, last);
-    std::num::wrapping_sub_u32(since, 1) % wheel_of(l)
+    let since = c.wrapping_sub(last);
+    since.wrapping_sub(1) % wheel_of(l)
 }

@@ -28,66 +28,69 @@ const USED: u64 = 4;
 
 const CYCLE_WIDTH: u32 = 4;
 
-// The usage flag of a link's frames.
-fn usage(l: Link) -> u32
-    ensures { result ≡ usage l.edition }
-{
-    let edition = l.edition;
-    match edition {
-        Edition::Former => 0,
-        Edition::CycleUnused => 0,
-        Edition::CycleUsed => 1,
+impl Link {
+    // The width of the count.
+    pub(crate) fn count_width(self) -> u32
+        ensures { result ≡ count_width self }
+    {
+        OWN_WIDTH + self.edition.cycle_width()
     }
 }
 
-// How many bits the cycle adds to the count.
-fn cycle_width(l: Link) -> u32
-    ensures { result ≡ cycle_width l.edition }
-{
-    usage(l) * CYCLE_WIDTH
-}
-
-// The width of the count.
-pub(crate) fn count_width(l: Link) -> u32
-    ensures { result ≡ count_width l }
-{
-    OWN_WIDTH + cycle_width(l)
-}
-
-// Where the count's bits stand that its own octets have no room for.
-fn cycle_at(l: Link) -> Place
-    ensures { result ≡ cycle_at l.edition }
-{
-    Place {
-        below: 0,
-        width: cycle_width(l),
+impl Edition {
+    // The usage flag of its frames.
+    fn usage(self) -> u32
+        ensures { result ≡ usage self }
+    {
+        match self {
+            Edition::Former => 0,
+            Edition::CycleUnused => 0,
+            Edition::CycleUsed => 1,
+        }
     }
-}
 
-// Whether the bits below the replay flag are as the edition has them: with usage 0 none is 1, whatever the edition calls them.
-pub(crate) fn is_right(l: Link, head: u64) -> bool
-    ensures { result ≡ signals l.edition head }
-{
-    if usage(l) == 0 {
-        return words::field(head, SEVEN) == 0;
+    // How many bits the cycle adds to the count.
+    fn cycle_width(self) -> u32
+        ensures { result ≡ cycle_width self }
+    {
+        self.usage() * CYCLE_WIDTH
     }
-    words::field(head, FLAGS) == USED
-}
 
-// The count that a header's number has.
-pub(crate) fn count_in(l: Link, head: u64) -> u32
-    ensures { result ≡ count_in l.edition head }
-{
-    let cycle = words::field(head, cycle_at(l)) as u32;
-    let own = words::field(head, COUNT) as u32;
-    (cycle << OWN_WIDTH) + own
-}
+    // Where the count's bits stand that its own octets have no room for.
+    fn cycle_at(self) -> Place
+        ensures { result ≡ cycle_at self }
+    {
+        Place {
+            below: 0,
+            width: self.cycle_width(),
+        }
+    }
 
-// The signalling octet of the frame with this count and replay flag.
-pub(crate) fn written(l: Link, count: u32, replay: u8) -> u64
-    ensures { result ≡ signalling l.edition count replay }
-{
-    let replayed = words::placed(0, REPLAY, replay as u64);
-    let used = words::placed(replayed, USAGE, usage(l) as u64);
-    words::placed(used, cycle_at(l), count as u64 >> OWN_WIDTH)
+    // Whether a header's bits below the replay flag are its own: with usage 0 none is 1, whatever the edition calls them.
+    pub(crate) fn agrees(self, head: u64) -> bool
+        ensures { result ≡ signals self head }
+    {
+        if self.usage() == 0 {
+            return words::field(head, SEVEN) == 0;
+        }
+        words::field(head, FLAGS) == USED
+    }
+
+    // The count that a header's number has.
+    pub(crate) fn count_in(self, head: u64) -> u32
+        ensures { result ≡ count_in self head }
+    {
+        let cycle = words::field(head, self.cycle_at()) as u32;
+        let own = words::field(head, COUNT) as u32;
+        (cycle << OWN_WIDTH) + own
+    }
+
+    // The signalling octet of the frame with this count and replay flag.
+    pub(crate) fn signalling(self, count: u32, replay: u8) -> u64
+        ensures { result ≡ signalling self count replay }
+    {
+        let replayed = words::placed(0, REPLAY, replay as u64);
+        let used = words::placed(replayed, USAGE, self.usage() as u64);
+        words::placed(used, self.cycle_at(), count as u64 >> OWN_WIDTH)
+    }
 }

@@ -1,6 +1,6 @@
 -- What a call has that no row refuses.
 -- Assumes nothing.
-use mathlib.Core.Path.{◌≡◌, refl}
+use mathlib.Core.Path.{◌≡◌, refl, subst}
 use mathlib.Core.List.{List, []}
 use mathlib.Core.Bool.{true}
 use Prim.Native.Nat.{ℕ, ◌+◌, ◌≤◌, ◌<◌}
@@ -78,3 +78,7 @@ open_tries {s} {store} c a = record {
   between = refl;
   reached = and_both (ready_on_wheel s c) (holds_none s store);
 }
+
+-- the same of a record that is told by its case
+pub accepts_as : {s : Settings} {store : List ℕ} {j k : Judge} → first (frame_refusals s store j) ≡ 0 → j ≡ k → Accepts s store k
+accepts_as {s} {store} {j} none e = subst (λ (j : Judge). Accepts s store j) e (accepts s store j none)

@@ -6,11 +6,11 @@ use mathlib.Core.Bool.{true}
 use Prim.Native.Nat.{ℕ}
 use lib.ListN.{length, drop}
 use lib.Dec.{eqb}
-use borrow.Author.Tests.{eqb-true, eqb-false}
+use borrow.Author.Tests.{eqb-true, eqb-false, ne_eqb}
 use Rattle.octets.specs.Basics.{first, Row}
 use Rattle.octets.proofs.Tests.{test}
 use Rattle.frames.specs.declared.Settings.{Settings}
-use Rattle.judge.specs.Calls.{judge_reachable, Judging, judging, JudgeSaid, judge_answers, unless_refused, Calling}
+use Rattle.judge.specs.Calls.{close_rows, close_refused, close_call, judge_refused, judge_reachable, Judging, judging, JudgeSaid, judge_answers, unless_refused, Calling}
 use Rattle.judge.specs.Statements.{Keeps}
 use Rattle.judge.specs.declared.Judge.{Judge}
 
@@ -26,6 +26,17 @@ module _ (rows : List Row) (store : List ℕ) (j : Judge) (k : Judging) where
   -- its refusal is that of the first row that holds
   pub numbered : (unless_refused rows store j k).refusal ≡ first rows
   numbered = either (λ (a : JudgeSaid). a.refusal ≡ first rows) (λ e. sym e) (λ h. refl)
+
+-- what a refused call says
+pub close_refuses : (s : Settings) (store : List ℕ) (j : Judge) {n : ℕ} → n ≡ first (close_rows s store j) → (n ≡ 0 → ⊥) → close_refused n ≡ close_call s store j
+unfolding close_call
+close_refuses s store j e some = rw (← e, ne_eqb _ 0 some) refl
+
+pub refuses : (rows : List Row) (store : List ℕ) (j : Judge) (k : Judging) {n : ℕ} → n ≡ first rows → (n ≡ 0 → ⊥) → judge_refused j store n ≡ unless_refused rows store j k
+refuses rows store j k e some = rw (← e, ne_eqb _ 0 some) refl
+
+pub not_refused : (rows : List Row) (store : List ℕ) (j : Judge) {k l : Judging} → first rows ≡ 0 → l ≡ k → judge_answers 0 l ≡ unless_refused rows store j k
+not_refused rows store j none e = rw (none, e) refl
 
 -- what a call leaves that is not refused: a record that the rules can reach, over a store of the same length that is written below the
 -- limit alone

@@ -10,7 +10,7 @@ use Rattle.octets.specs.Basics.{first}
 use Rattle.octets.proofs.Tests.{test}
 use Rattle.frames.specs.Frame.{in_range, frame_rows, count, heading}
 use Rattle.frames.specs.Link.{primary, count_width}
-use Rattle.frames.specs.declared.Heading.{Heading}
+use Rattle.frames.specs.Shape.{Heading}
 use Rattle.frames.specs.declared.Settings.{Settings}
 use Rattle.frames.proofs.Accepted.{accepted_heading}
 use Rattle.frames.proofs.Wheel.{count_before, before_on_wheel, count_lt, follows_before}

@@ -29,7 +29,7 @@ use Rattle.extractor.specs.Extract.{State, in_step, any_torn, agreed, reason_by,
 use Rattle.extractor.specs.Records.{unfinished, holds_well, on_wheel, reachable, is_entered, stands_for, set_off, set_out, enter, steps_to, handed_over, step_look, step, step_call, shown}
 use Rattle.extractor.specs.Calls.{event_at, Finds, steps, through}
 use Rattle.extractor.specs.declared.Extractor.TheVariants.{InStep, Walking}
-use Rattle.extractor.specs.declared.Found.TheVariants.{InFrame}
+use Rattle.extractor.specs.Found.{InFrame}
 use Rattle.extractor.proofs.Places.{BegunIn, Place, in_zone, in_packet, holds_packet, walking_reachable, ahead}
 use Rattle.extractor.proofs.Reaches.{step_next, all_framed, outlasted_agrees, kept_step, begun_within, counted}
 use Rattle.extractor.proofs.Settles.{step_unrefused}

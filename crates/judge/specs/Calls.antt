@@ -1,6 +1,8 @@
 -- The judge call by call: over its record, a lent store and a lent frame.
-use Rattle.std.specs.Prelude.{ℕ, ◌+◌, ◌*◌, List, [], ◌∷◌, Bool, true, false, not, length, leb, ltb, eqb}
+use Rattle.std.specs.Prelude.{ℕ, ◌+◌, ◌*◌, List, [], ◌∷◌, Bool, true, false, not, length, leb, ltb, eqb, Result, Ok, Err}
 use Rattle.octets.specs.Basics.{pick, and, first, Row, row}
+use Rattle.octets.specs.Refusals.{number_of}
+use Rattle.octets.specs.declared.refusals.Refusal.{Refusal}
 use Rattle.frames.specs.Frame.{in_range, count, most_frames}
 use Rattle.frames.specs.declared.Settings.{Settings}
 use Rattle.extractor.specs.Extract.{State, any_torn}
@@ -11,9 +13,7 @@ use Rattle.extractor.specs.declared.Extractor.TheVariants.{Fresh, InStep}
 use Rattle.judge.specs.Judge.{opened, faulty_entry, Verdict, pass, fault}
 use Rattle.judge.specs.declared.Judge.{Judge}
 use Rattle.judge.specs.declared.Judge.TheVariants.{Open, Sound, Faulty}
-use Rattle.judge.specs.declared.Judged.{Judged}
-use Rattle.judge.specs.declared.Closed.{Closed}
-use Rattle.judge.specs.declared.Closed.TheVariants.{Refused, Pass, Fault}
+use Rattle.judge.specs.declared.Verdict as declared
 
 -- ---- the records that the rules can reach
 
@@ -99,14 +99,20 @@ pub record JudgeSaid : Type 0 where
 abbrev pub judge_answers : ℕ → Judging → JudgeSaid
 judge_answers n k = record { refusal = n; next = k.next; store = k.store }
 
-abbrev pub judge_says : Judged → List ℕ → JudgeSaid
-judge_says r store = judge_answers r.refusal (judging r.next store)
+-- a refusal leaves record and store as they were
+abbrev pub judge_refused : Judge → List ℕ → ℕ → JudgeSaid
+judge_refused j store n = judge_answers n (judging j store)
 
--- a refusal, which leaves record and store as they were, or what a call leaves that no row refuses
+-- what an answer says, where this was the record before
+abbrev pub judge_says : Judge → Result Judge Refusal → List ℕ → JudgeSaid
+judge_says j (Err refusal) store = judge_refused j store (number_of refusal)
+judge_says j (Ok next) store = judge_answers 0 (judging next store)
+
+-- a refusal, or what a call leaves that no row refuses
 abbrev pub unless_refused : List Row → List ℕ → Judge → Judging → JudgeSaid
 unless_refused rows store j k =
     let n : ℕ = first rows in
-    pick (eqb n 0) (judge_answers 0 k) (judge_answers n (judging j store))
+    pick (eqb n 0) (judge_answers 0 k) (judge_refused j store n)
 
 -- a kind of call: over settings, store and record, and the octets that are handed over
 abbrev pub Calling : Type 0
@@ -132,21 +138,25 @@ pub record CloseSaid : Type 0 where
   pub passes : Bool
   pub at : ℕ
 
-unfoldable pub close_says : Closed → CloseSaid
-close_says (Refused n) = record { accepted = false; refusal = n; passes = false; at = 0 }
-close_says Pass = record { accepted = true; refusal = 0; passes = true; at = 0 }
-close_says (Fault k) = record { accepted = true; refusal = 0; passes = false; at = k }
+-- closing that is refused by n
+abbrev pub close_refused : ℕ → CloseSaid
+close_refused n = record { accepted = false; refusal = n; passes = false; at = 0 }
+
+unfoldable pub close_says : Result declared.Verdict Refusal → CloseSaid
+close_says (Err refusal) = close_refused (number_of refusal)
+close_says (Ok declared.Verdict.Pass) = record { accepted = true; refusal = 0; passes = true; at = 0 }
+close_says (Ok (declared.Verdict.Fault k)) = record { accepted = true; refusal = 0; passes = false; at = k }
 
 -- a verdict as an answer
-unfoldable pub closes_with : Verdict → Closed
-closes_with pass = Pass
-closes_with (fault k) = Fault k
+unfoldable pub closes_with : Verdict → Result declared.Verdict Refusal
+closes_with pass = Ok declared.Verdict.Pass
+closes_with (fault k) = Ok (declared.Verdict.Fault k)
 
 -- what the rules give
 unfoldable pub close_call : Settings → List ℕ → Judge → CloseSaid
 close_call s store j =
     let n : ℕ = first (close_rows s store j) in
-    close_says (pick (eqb n 0) (closes_with (judge_close j)) (Refused n))
+    pick (eqb n 0) (close_says (closes_with (judge_close j))) (close_refused n)
 
 -- ---- a run
 

@@ -6,14 +6,14 @@ ghost use Rattle.judge.specs.Calls.{judge_says, frame_call, close_says, close_ca
 ghost use Rattle.judge.specs.Tapes.{tape_call};
 
 use frames::Settings;
-use octets::refusals;
+use octets::Refusal;
 
 mod playing;
 mod record;
 mod trial;
 
 // What a judge keeps between frames.
-#[derive(Clone, Copy)]
+#[derive(Clone, Copy, Debug, PartialEq, Eq)]
 pub enum Judge {
     // No frame yet: in step, nothing held, no last count.
     Open,
@@ -23,73 +23,44 @@ pub enum Judge {
     Faulty { tally: u32, at: u32 },
 }
 
-// What a frame or a tape is refused for, 0 where it is not, and the record after it.
-#[derive(Clone, Copy)]
-pub struct Judged {
-    pub refusal: u8,
-    pub next: Judge,
-}
-
-// What closing answers.
-#[derive(Clone, Copy)]
-pub enum Closed {
-    // The call is refused by this number.
-    Refused { refusal: u8 },
+// The verdict on a run.
+#[derive(Clone, Copy, Debug, PartialEq, Eq)]
+pub enum Verdict {
     Pass,
     // The index of the first fault; the number of frames where octets are still held.
     Fault { at: u32 },
 }
 
-// One whole frame of the run. Up to the first fault the store changes as the extractor's steps change it.
-pub fn frame(s: Settings, j: Judge, store: &mut [u8], frame: &[u8]) -> Judged
-    ensures { judge_says result store.new ≡ frame_call s store.old j frame.now }
+// One whole frame of the run: the record after it. Up to the first fault the store changes as the extractor's steps change it.
+pub fn frame(s: Settings, j: Judge, store: &mut [u8], frame: &[u8]) -> Result<Judge, Refusal>
+    ensures { judge_says j result store.new ≡ frame_call s store.old j frame.now }
 {
-    let refusal = record::refusal(s, j, store);
-    if refusal != 0 {
-        return Judged { refusal, next: j };
-    }
+    record::check(s, j, store)?;
     if record::is_past_last(j, 1) {
-        return Judged {
-            refusal: refusals::FRAMES,
-            next: j,
-        };
+        return Err(Refusal::Frames);
     }
-    let next = trial::judged(s, j, store, frame);
-    Judged { refusal: 0, next }
+    Ok(trial::judged(s, j, store, frame))
 }
 
 // Frames that lie end to end, none included: as one after the other in single calls. A refusal takes none of them.
-pub fn tape(s: Settings, j: Judge, store: &mut [u8], tape: &[u8]) -> Judged
-    ensures { judge_says result store.new ≡ tape_call s store.old j tape.now }
+pub fn tape(s: Settings, j: Judge, store: &mut [u8], tape: &[u8]) -> Result<Judge, Refusal>
+    ensures { judge_says j result store.new ≡ tape_call s store.old j tape.now }
 {
-    let refusal = record::refusal(s, j, store);
-    if refusal != 0 {
-        return Judged { refusal, next: j };
-    }
+    record::check(s, j, store)?;
     let size = s.zone + frames::around(s.link);
     if record::is_past_last(j, tape.len() / size) {
-        return Judged {
-            refusal: refusals::FRAMES,
-            next: j,
-        };
+        return Err(Refusal::Frames);
     }
     if tape.len() % size != 0 {
-        return Judged {
-            refusal: refusals::LENGTH,
-            next: j,
-        };
+        return Err(Refusal::Length);
     }
-    let next = playing::played(s, j, size, store, tape);
-    Judged { refusal: 0, next }
+    Ok(playing::played(s, j, size, store, tape))
 }
 
 // The verdict on the frames so far. Record and store stay as they are.
-pub fn close(s: Settings, j: Judge, store: &[u8]) -> Closed
+pub fn close(s: Settings, j: Judge, store: &[u8]) -> Result<Verdict, Refusal>
     ensures { close_says result ≡ close_call s store.now j }
 {
-    let refusal = record::refusal(s, j, store);
-    if refusal != 0 {
-        return Closed::Refused { refusal };
-    }
-    record::verdict(j)
+    record::check(s, j, store)?;
+    Ok(record::verdict(j))
 }

@@ -15,11 +15,8 @@ pub(crate) fn played(s: Settings, j: Judge, size: usize, store: &mut [u8], tape:
     ensures { judging result store.new ≡ left_by (judge_calls s store.old j (frames_in s tape.now)) }
 {
     let mut next = j;
-    let mut at = 0;
-    while at < tape.len() {
-        let to = at + size;
-        next = trial::judged(s, next, store, &tape[at..to]);
-        at = to;
+    for frame in tape.chunks_exact(size) {
+        next = trial::judged(s, next, store, frame);
     }
     next
 }

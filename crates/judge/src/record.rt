@@ -1,13 +1,14 @@
 // The judge's record: whether the rules can reach it, and the verdict that it comes to.
 ghost use Rattle.std.specs.Prelude.{◌≡◌, true, ◌≤◌};
 ghost use Rattle.octets.specs.Basics.{first};
+ghost use Rattle.octets.specs.Refusals.{refusal_of};
 ghost use Rattle.frames.specs.Frame.{in_range, most_frames};
 ghost use Rattle.judge.specs.Calls.{tally_of, past_last, counts_well, extractor_of, close_rows, judge_close, closes_with};
 
-use crate::{Closed, Judge};
+use crate::{Judge, Verdict};
 use extractor::Extractor;
 use frames::{MOST_FRAMES, Settings};
-use octets::refusals;
+use octets::Refusal;
 
 // The frames that it has seen.
 pub(crate) fn tally_of(j: Judge) -> u32
@@ -15,8 +16,7 @@ pub(crate) fn tally_of(j: Judge) -> u32
 {
     match j {
         Judge::Open => 0,
-        Judge::Sound { tally, .. } => tally,
-        Judge::Faulty { tally, .. } => tally,
+        Judge::Sound { tally, .. } | Judge::Faulty { tally, .. } => tally,
     }
 }
 
@@ -29,6 +29,7 @@ pub(crate) fn is_past_last(j: Judge, more: usize) -> bool
 }
 
 // Whether its numbers can be those of a run.
+#[tactic(auto, unfolding(crate::specs::Calls::counts_well))]
 fn counts_well(s: Settings, j: Judge) -> bool
     requires { in_range s ≡ true }
     ensures { result ≡ counts_well s j }
@@ -46,39 +47,30 @@ fn extractor_of(j: Judge) -> Extractor
     ensures { result ≡ extractor_of j }
 {
     match j {
-        Judge::Open => Extractor::Fresh,
         Judge::Sound { last, held, .. } => Extractor::InStep { last, held },
-        Judge::Faulty { .. } => Extractor::Fresh,
+        Judge::Open | Judge::Faulty { .. } => Extractor::Fresh,
     }
 }
 
-// What settings, store and record are refused for; 0 where they are not.
-pub(crate) fn refusal(s: Settings, j: Judge, store: &[u8]) -> u8
-    ensures { result ≡ first (close_rows s store.now j) }
+// Refuses settings, store and record.
+pub(crate) fn check(s: Settings, j: Judge, store: &[u8]) -> Result<(), Refusal>
+    ensures { refusal_of result ≡ first (close_rows s store.now j) }
 {
-    let holding = extractor::record_refusal(s, extractor_of(j), store);
-    if holding != 0 {
-        return holding;
-    }
+    extractor::record_refusal(s, extractor_of(j), store)?;
     if !counts_well(s, j) {
-        return refusals::RECORD;
+        return Err(Refusal::Record);
     }
-    0
+    Ok(())
 }
 
 // The verdict that it comes to.
-pub(crate) fn verdict(j: Judge) -> Closed
-    ensures { result ≡ closes_with (judge_close j) }
+#[tactic(auto, unfolding(crate::specs::Calls::judge_close, crate::specs::Calls::closes_with))]
+pub(crate) fn verdict(j: Judge) -> Verdict
+    ensures { Ok result ≡ closes_with (judge_close j) }
 {
     match j {
-        Judge::Open => Closed::Pass,
-        Judge::Sound { tally, held, .. } => {
-            if held == 0 {
-                Closed::Pass
-            } else {
-                Closed::Fault { at: tally }
-            }
-        }
-        Judge::Faulty { at, .. } => Closed::Fault { at },
+        Judge::Sound { tally, held, .. } if held != 0 => Verdict::Fault { at: tally },
+        Judge::Open | Judge::Sound { .. } => Verdict::Pass,
+        Judge::Faulty { at, .. } => Verdict::Fault { at },
     }
 }

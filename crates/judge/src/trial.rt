@@ -8,7 +8,7 @@ ghost use Rattle.judge.specs.Calls.{frame_refusals, judging, faults_at, try_fram
 ghost use Rattle.judge.specs.Trials.{Tries, goes_on_from};
 
 use crate::Judge;
-use extractor::{Entered, Extractor};
+use extractor::Extractor;
 use frames::Settings;
 
 // The first fault stands at frame n.
@@ -23,6 +23,7 @@ fn fault(n: u32) -> Judge
 }
 
 // The judge after frame n, from the extractor's record: only damage leaves that out of step.
+#[tactic(auto, unfolding(crate::specs::Trials::goes_on_from))]
 fn goes_on_from(n: u32, x: Extractor) -> Judge
     requires { n < most_frames }
     ensures { result ≡ goes_on_from n x }
@@ -42,27 +43,27 @@ fn tried(s: Settings, n: u32, x: Extractor, store: &mut [u8], frame: &[u8]) -> J
     requires { Tries s n x store.old }
     ensures { judging result store.new ≡ try_frame s n (stands_for store.old x) store.old frame.now }
 {
-    let entering = extractor::enter(s, x, store, frame);
-    let entered = entering.entered;
-    let x = entering.next;
-    let Entered::Taken { entry } = entered else {
+    let Ok(entering) = extractor::enter(s, x, store, frame) else {
         return fault(n);
     };
-    if (entry.lost != 0) | (entry.reason != 0) {
+    let entry = entering.entry;
+    if (entry.lost != 0) | entry.reason.is_some() {
         return fault(n);
     }
-    let spending = extractor::spend(s, x, store, frame);
-    let x = spending.next;
-    goes_on_from(n, x)
+    let spent = extractor::spend(s, entering.next, store, frame);
+    goes_on_from(n, spent.unwrap_or(entering.next))
 }
 
 // The extractor's record before a first frame: in step, nothing held, and nothing missing, since the last count is the one before.
 fn ready_for(s: Settings, frame: &[u8]) -> Extractor
     ensures { result ≡ Extractor.InStep (missing (count_width s.link) 0 (heading s frame.now).count) 0 }
 {
-    let heading = frames::read_head(s, frame);
+    let count = match frames::read_head(s, frame) {
+        Ok(heading) => heading.count,
+        Err(_) => 0,
+    };
     Extractor::InStep {
-        last: frames::missing(s.link, 0, heading.count),
+        last: frames::missing(s.link, 0, count),
         held: 0,
     }
 }

@@ -7,11 +7,15 @@ use Prim.Native.Nat.{ℕ, ◌+◌, ◌^◌, ◌≤◌, ◌<◌}
 use native.Mathlib.Nat.{add-sub_cancel_left}
 use native.Mathlib.Omega.{arith}
 use lib.ListN.{length, take, drop, replicate, length-replicate}
+use Rattle.std.specs.Prelude.{Result, IsOk}
 use lib.Dec.{eqb}
 use lib.Seq.{take-length}
 use borrow.Author.Tests.{eq-eqb, ne_eqb}
 use Rattle.octets.specs.Basics.{pick, part, over, laid, laid_part, first}
+use Rattle.octets.specs.Refusals.{refusal_of}
+use Rattle.octets.specs.declared.refusals.Refusal.{Refusal}
 use Rattle.octets.proofs.Written.{length_run, laid_within, part_within}
+use Rattle.wrapping.proofs.Fits.{accepted}
 use Rattle.trailer.specs.Trailer.{ended}
 use Rattle.frames.specs.Link.{zone_at, count_width, next_count}
 use Rattle.frames.specs.Frame.{frame_length, head, head_rows, no_start, idle_zone}
@@ -20,9 +24,8 @@ use Rattle.frames.proofs.Framed.{Used}
 use Rattle.frames.proofs.Heads.{none_refused}
 use Rattle.multiplexer.specs.Multiplex.{filled_frame, filled_mux, start_now, put, idle_frame}
 use Rattle.multiplexer.specs.Laying.{Fills, LaidOver, Counted, PacketLaid}
-use Rattle.multiplexer.specs.Calls.{doing, answers}
+use Rattle.multiplexer.specs.Calls.{left_by}
 use Rattle.multiplexer.specs.declared.Mux.{Mux}
-use Rattle.multiplexer.specs.declared.Reply.TheVariants.{Done}
 use Rattle.multiplexer.proofs.Rows.{Accepted}
 
 -- a call that is not refused may lay what stays within the zone
@@ -36,6 +39,13 @@ accepted_fills start n frame w e p u h = record {
   used = u;
   inside = h;
 }
+
+-- the headers of a full zone's frame are not refused
+pub head_accepted : {s : Settings} {m : Mux} {start n : ℕ} {d : List ℕ} (r : Result (Unit {0}) Refusal) → Fills s m start n d
+    → refusal_of r ≡ first (head_rows s m.count start d) → IsOk r
+unfolding frame_length
+head_accepted {s} {m} {start} {n} {d} r w t =
+    accepted r {room = true} (t ∙ none_refused s m.count start d w.settled w.counted w.pointed w.used (omega (arith, w.room))) refl
 
 module _ {s : Settings} {m : Mux} {start n : ℕ} {d : List ℕ} (taken : ℕ) where
   -- octets that leave room in the zone
@@ -77,16 +87,16 @@ module _ (s : Settings) (m : Mux) {x : Mux} {laid left : List ℕ} where
   -- a packet's next octets, laid and counted, are what the rules put
   pub put_laid : (n len start taken : ℕ) → m.taken + n ≤ len → start ≡ start_now m → taken ≡ pick (eqb (m.taken + n) len) 0 (m.taken + n)
       → Counted s m start n taken x laid left
-      → PacketLaid s m n len (Done (eqb (m.filled + n) s.zone) (eqb (m.taken + n) len) x) laid left
-  unfolding answers put
+      → PacketLaid s m n len (record { full = eqb (m.filled + n) s.zone; taken = eqb (m.taken + n) len; mux = x }) laid left
+  unfolding put
   put_laid n len start taken h t u w p frame e k q =
       let os : List ℕ = part m.taken (m.taken + n) p in
       rw (w.mux, w.frame os frame (length-next p m.taken n (omega arith)) q, u, t, ← e, k) refl
 
   -- the fill octets of an idle zone, the same
   pub zone_laid : (frame : List ℕ) → LaidOver s m (replicate s.zone s.fill) frame laid → Counted s m idle_zone s.zone 0 x laid left
-      → answers (Done true false x) left ≡ doing (idle_frame s m frame)
-  unfolding answers idle_frame
+      → left_by (record { full = true; taken = false; mux = x }) left ≡ idle_frame s m frame
+  unfolding idle_frame
   zone_laid frame q w =
       rw (w.mux, w.frame (replicate s.zone s.fill) frame (length-replicate s.zone s.fill) q) refl
 

@@ -1,14 +1,14 @@
 -- What the rows of a call ask, where none of them holds.
 -- Assumes nothing.
-use mathlib.Core.Path.{◌≡◌, refl, sym, ◌∙◌}
-use mathlib.Core.List.{List, [], ◌∷◌, ◌++◌}
+use mathlib.Core.Path.{◌≡◌, refl}
+use mathlib.Core.List.{List, ◌++◌}
 use mathlib.Core.Bool.{Bool, true, false}
 use Prim.Native.Nat.{ℕ, ◌≤◌}
 use native.Mathlib.Omega.{arith}
 use lib.ListN.{length}
 use lib.Dec.{leb, ltb}
 use borrow.Author.Tests.{le-leb, ltb-false, leb-false, not-false}
-use Rattle.octets.specs.Basics.{and, Row, row, first}
+use Rattle.octets.specs.Basics.{and, Row, first}
 use Rattle.octets.proofs.Choices.{none_holds, or_false}
 use Rattle.packets.specs.Packet.{limit_in_range}
 use Rattle.frames.specs.Frame.{in_range, frame_length}
@@ -66,22 +66,6 @@ unfolding idle_rows
 idle_passed s m room e =
     let a = lent_passed s m room _ e in
     (accepted s m room a.0, omega (arith, ltb-false 0 m.filled (or_false (ltb 0 m.taken) _ (none_holds 8 _ _ a.1).0).1))
-
--- a row of every call that holds refuses, whatever rows stand below
-above : (a b c : Bool) (rs : List Row) → (first (row 1 a ∷ row 2 b ∷ row 10 c ∷ []) ≡ 0 → ⊥)
-    → first (row 1 a ∷ row 2 b ∷ row 10 c ∷ []) ≡ first (row 1 a ∷ row 2 b ∷ row 10 c ∷ rs)
-unfolding first
-above true b c rs h = refl
-above false true c rs h = refl
-above false false true rs h = refl
-above false false false rs h = absurd (h refl)
-
-module _ (s : Settings) (m : Mux) (room : ℕ) {r : ℕ} (e : r ≡ first (lent_rows s m room)) where
-  pub lent_refused : (rs : List Row) → (r ≡ 0 → ⊥) → r ≡ first (lent_rows s m room ++ rs)
-  lent_refused rs h = e ∙ above _ _ _ rs (λ z. h (e ∙ z))
-
-  pub lent_none : r ≡ 0 → Lent s m room
-  lent_none h = (lent_passed s m room [] (sym e ∙ h)).0
 
 -- a row below that of the settings need not test the limit again
 pub limit_known : (s : Settings) → in_range s ≡ true → limit_in_range s.limit ≡ true

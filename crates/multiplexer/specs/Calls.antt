@@ -1,12 +1,15 @@
 -- The multiplexer's calls as one type: what each is refused for, what it does, and what it answers.
-use Rattle.std.specs.Prelude.{◌≡◌, ℕ, List, Bool, true, false, length, eqb}
+use Rattle.std.specs.Prelude.{◌≡◌, ℕ, List, Bool, true, false, Result, Ok, Err, length, eqb}
 use Rattle.octets.specs.Basics.{pick, Row, first}
+use Rattle.octets.specs.Refusals.{number_of}
+use Rattle.octets.specs.declared.refusals.Refusal.{Refusal}
 use Rattle.packets.specs.Packet.{carried}
+use Rattle.packets.specs.Damage.{damage_or_0}
+use Rattle.packets.specs.declared.damage.Refused.{Refused}
 use Rattle.frames.specs.declared.Settings.{Settings}
 use Rattle.multiplexer.specs.Multiplex.{Put, put_rows, put, flush_rows, flush, idle_rows, idle_frame}
 use Rattle.multiplexer.specs.declared.Mux.{Mux}
-use Rattle.multiplexer.specs.declared.Reply.{Reply}
-use Rattle.multiplexer.specs.declared.Reply.TheVariants.{Refused, Done}
+use Rattle.multiplexer.specs.declared.Done.{Done}
 
 pub data Call : Type 0 where
   to_put : List ℕ → Call
@@ -49,10 +52,19 @@ refusing n damage m frame = record { accepted = false; refusal = n; damage = dam
 abbrev pub doing : Put → Answer
 doing w = record { accepted = true; refusal = 0; damage = 0; full = w.full; taken = w.taken; mux = w.mux; frame = w.frame }
 
--- the values of a reply, and the frame that is left behind
-unfoldable pub answers : Reply → List ℕ → Answer
-answers (Refused n damage m) frame = refusing n damage m frame
-answers (Done full taken m) frame = doing (record { full = full; taken = taken; mux = m; frame = frame })
+-- what a call did, and the frame that is left behind
+abbrev pub left_by : Done → List ℕ → Put
+left_by d frame = record { full = d.full; taken = d.taken; mux = d.mux; frame = frame }
+
+-- the values of a put's answer to the record m, and the frame that is left behind
+unfoldable pub answers : Mux → Result Done Refused → List ℕ → Answer
+answers m (Ok d) frame = doing (left_by d frame)
+answers m (Err r) frame = refusing (number_of r.refusal) (damage_or_0 r.damage) m frame
+
+-- the same of a flush and of an idle zone, which are lent no packet
+unfoldable pub answers_alone : Mux → Result Done Refusal → List ℕ → Answer
+answers_alone m (Ok d) frame = doing (left_by d frame)
+answers_alone m (Err r) frame = refusing (number_of r) 0 m frame
 
 -- THE RULE OF EVERY CALL: the first row that holds refuses it; where none holds it is carried out
 unfoldable pub answer : Settings → Mux → Call → List ℕ → Answer
@@ -60,10 +72,10 @@ answer s m c frame =
     let n : ℕ = first (call_rows s m c (length frame)) in
     pick (eqb n 0) (doing (call s m c frame)) (refusing n (call_damage s c n) m frame)
 
--- a reply and the frame that is left behind meet the promise of a call
-pub record Outcome : Type 0 where
-  pub reply : Reply
+-- an answer and the frame that is left behind meet the promise of a call to the record m
+pub record Outcome (A : Type 0) : Type 0 where
+  pub said : A
   pub frame : List ℕ
 
-abbrev pub Meets : Outcome → Answer → Type 0
-Meets o a = answers o.reply o.frame ≡ a
+abbrev pub Meets : {A : Type 0} → (Mux → A → List ℕ → Answer) → Mux → Outcome A → Answer → Type 0
+Meets by m o a = by m o.said o.frame ≡ a

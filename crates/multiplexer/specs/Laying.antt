@@ -5,9 +5,9 @@ use Rattle.frames.specs.Link.{zone_at, count_width}
 use Rattle.frames.specs.Frame.{in_range, frame_length, unused}
 use Rattle.frames.specs.declared.Settings.{Settings}
 use Rattle.multiplexer.specs.Multiplex.{filled_frame, filled_mux, fits_now, put}
-use Rattle.multiplexer.specs.Calls.{doing, answers}
+use Rattle.multiplexer.specs.Calls.{left_by}
 use Rattle.multiplexer.specs.declared.Mux.{Mux}
-use Rattle.multiplexer.specs.declared.Reply.{Reply}
+use Rattle.multiplexer.specs.declared.Done.{Done}
 
 -- the frame has room, n octets more stay within its zone, and the start is a pointer that may be written: below Z, 2,046 or 2,047
 pub record Fills (s : Settings) (m : Mux) (start n : ℕ) (frame : List ℕ) : Type 0 where
@@ -27,8 +27,8 @@ pub record Counted (s : Settings) (m : Mux) (start n taken : ℕ) (x : Mux) (lai
   pub mux : x ≡ filled_mux s m start n taken
   pub frame : (os frame : List ℕ) → length os ≡ n → LaidOver s m os frame laid → left ≡ filled_frame s m start os frame
 
--- the answer and the frame once the next n octets of a packet of `len` were laid: what the rules put
-abbrev pub PacketLaid : Settings → Mux → ℕ → ℕ → Reply → List ℕ → List ℕ → Type 0
-PacketLaid s m n len r laid left =
+-- what was done and the frame once the next n octets of a packet of `len` were laid: what the rules put
+abbrev pub PacketLaid : Settings → Mux → ℕ → ℕ → Done → List ℕ → List ℕ → Type 0
+PacketLaid s m n len d laid left =
     (p frame : List ℕ) → length p ≡ len → n ≡ fits_now s m p → LaidOver s m (part m.taken (m.taken + n) p) frame laid
-    → answers r left ≡ doing (put s m p frame)
+    → left_by d left ≡ put s m p frame

@@ -3,17 +3,18 @@
 
 ghost use Rattle.std.specs.Prelude.{◌≡◌, ◌+◌, ◌-◌, ◌≤◌, length, eqb};
 ghost use Rattle.octets.specs.Basics.{pick, first};
+ghost use Rattle.octets.specs.Refusals.{refusal_of};
 ghost use Rattle.wrapping.specs.Idle.{idle_packet};
 ghost use Rattle.multiplexer.specs.Multiplex.{begun, mux_reachable, lent_rows, put_rows, flush_rows, idle_rows, start_now, put, idle_frame};
-ghost use Rattle.multiplexer.specs.Calls.{to_put, to_flush, to_idle, doing, answers, answer};
+ghost use Rattle.multiplexer.specs.Calls.{to_put, to_flush, to_idle, left_by, answers, answers_alone, answer};
 ghost use Rattle.multiplexer.specs.Laying.{Fills, Counted, PacketLaid};
 
-use frames::{IDLE_ZONE, NO_START, Settings, ZONE_AT};
-use octets::refusals;
-use packets::damage;
+use frames::{Channel, IDLE_ZONE, NO_START, Settings, ZONE_AT};
+use octets::Refusal;
+use packets::Refused;
 
 // What a multiplexer keeps between calls.
-#[derive(Clone, Copy)]
+#[derive(Clone, Copy, Debug, PartialEq, Eq)]
 pub struct Mux {
     // The count of the frame that is being filled.
     pub count: u32,
@@ -25,13 +26,13 @@ pub struct Mux {
     pub taken: usize,
 }
 
-// What a call answers, with the record to go on with.
-#[derive(Clone, Copy)]
-pub enum Reply {
-    // The number of the refusal, and of refusal 8 what is wrong with the packet's header, or 0; the record is the one that was given.
-    Refused { refusal: u8, damage: u8, mux: Mux },
-    // Whether the zone is full, and whether the packet is taken; both may hold.
-    Done { full: bool, taken: bool, mux: Mux },
+// What a call did that is not refused: whether the zone is full, and whether the packet is taken; both may hold. With them is the record to
+// go on with; a call that is refused leaves the one that it was given.
+#[derive(Clone, Copy, Debug, PartialEq, Eq)]
+pub struct Done {
+    pub full: bool,
+    pub taken: bool,
+    pub mux: Mux,
 }
 
 // The first record.
@@ -47,6 +48,7 @@ pub fn begin() -> Mux
 }
 
 // Whether the calls can lead to a record.
+#[tactic(auto, unfolding(crate::specs::Multiplex::mux_reachable))]
 fn mux_reachable(s: Settings, m: Mux) -> bool
     ensures { result ≡ mux_reachable s m }
 {
@@ -57,66 +59,64 @@ fn mux_reachable(s: Settings, m: Mux) -> bool
     counted & ((m.filled == 0) & ((m.first == NO_START) & (m.taken < s.limit)))
 }
 
-// What every call is refused for first; 0 where it is not.
-fn lent_refusal(s: Settings, m: Mux, room: usize) -> u8
-    ensures { result ≡ first (lent_rows s m room) }
+// What every call is refused for first.
+#[tactic(auto, unfolding(octets::specs::Basics::first, frames::specs::Frame::frame_length))]
+fn may_call(s: Settings, m: Mux, room: usize) -> Result<(), Refusal>
+    ensures { refusal_of result ≡ first (lent_rows s m room) }
 {
-    if !frames::in_range(s) {
-        return refusals::SETTING;
+    if !s.in_range() {
+        return Err(Refusal::Setting);
     }
     if frames::is_short(s, room) {
-        return refusals::ROOM;
+        return Err(Refusal::Room);
     }
     if !mux_reachable(s, m) {
-        return refusals::RECORD;
+        return Err(Refusal::Record);
     }
-    0
+    Ok(())
 }
 
-// What a call is refused for; 0 where it is not.
-fn put_refusal(s: Settings, m: Mux, p: &[u8], room: usize) -> u8
-    ensures { result ≡ first (put_rows s m p.now room) }
+// Whether a packet may be put; or the first refusal that holds.
+#[tactic(auto, using(crate::proofs::Rows::limit_known), unfolding(crate::specs::Multiplex::put_rows, octets::specs::Basics::first))]
+fn may_put(s: Settings, m: Mux, p: &[u8], room: usize) -> Result<(), Refusal>
+    ensures { refusal_of result ≡ first (put_rows s m p.now room) }
 {
-    let lent = lent_refusal(s, m, room);
-    if lent != 0 {
-        return lent;
-    }
+    may_call(s, m, room)?;
     if (0 < m.taken) & (p.len() <= m.taken) {
-        return refusals::MOMENT;
+        return Err(Refusal::Moment);
     }
     if !packets::well_formed(s.limit, p) {
-        return refusals::PACKET;
+        return Err(Refusal::Packet);
     }
-    0
+    Ok(())
 }
 
-fn flush_refusal(s: Settings, m: Mux, room: usize) -> u8
-    ensures { result ≡ first (flush_rows s m room) }
+// Whether a zone may be flushed; or the first refusal that holds.
+#[tactic(auto, unfolding(crate::specs::Multiplex::flush_rows, octets::specs::Basics::first))]
+fn may_flush(s: Settings, m: Mux, room: usize) -> Result<(), Refusal>
+    ensures { refusal_of result ≡ first (flush_rows s m room) }
 {
-    let lent = lent_refusal(s, m, room);
-    if lent != 0 {
-        return lent;
-    }
+    may_call(s, m, room)?;
     if 0 < m.taken {
-        return refusals::MOMENT;
+        return Err(Refusal::Moment);
     }
-    0
+    Ok(())
 }
 
-fn idle_refusal(s: Settings, m: Mux, room: usize) -> u8
-    ensures { result ≡ first (idle_rows s m room) }
+// Whether an idle zone may be written; or the first refusal that holds.
+#[tactic(auto, unfolding(crate::specs::Multiplex::idle_rows, octets::specs::Basics::first))]
+fn may_idle(s: Settings, m: Mux, room: usize) -> Result<(), Refusal>
+    ensures { refusal_of result ≡ first (idle_rows s m room) }
 {
-    let lent = lent_refusal(s, m, room);
-    if lent != 0 {
-        return lent;
-    }
+    may_call(s, m, room)?;
     if (0 < m.taken) | (0 < m.filled) {
-        return refusals::MOMENT;
+        return Err(Refusal::Moment);
     }
-    0
+    Ok(())
 }
 
 // Where the zone's first packet starts, once more octets are laid: a packet that is continued starts nothing.
+#[tactic(auto, unfolding(crate::specs::Multiplex::start_now))]
 fn start_now(m: Mux) -> usize
     ensures { result ≡ start_now m }
 {
@@ -140,25 +140,24 @@ fn count_in(s: Settings, m: Mux, start: usize, n: usize, taken: usize, frame: &m
     ensures { Counted s m start n taken result frame.old frame.new }
 {
     if m.filled + n == s.zone {
-        frames::write_head(s, m.count, start as u16, frame);
+        frames::write_head(s, m.count, start as u16, frame).unwrap();
         trailer::end_frame(s.link.trailed, frame, ZONE_AT + s.zone);
         return Mux {
             count: frames::next_count(s.link, m.count),
-            filled: 0,
-            first: NO_START,
             taken,
+            ..begin()
         };
     }
     Mux {
-        count: m.count,
         filled: m.filled + n,
         first: start,
         taken,
+        ..m
     }
 }
 
-// What a call answers that laid the next n octets of a packet of `len` into the zone.
-fn packet_laid(s: Settings, m: Mux, n: usize, len: usize, frame: &mut [u8]) -> Reply
+// What a call did that laid the next n octets of a packet of `len` into the zone.
+fn packet_laid(s: Settings, m: Mux, n: usize, len: usize, frame: &mut [u8]) -> Done
     requires fills { Fills s m (start_now m) n frame.old }
     requires n_bound { m.taken + n ≤ len }
     ensures { PacketLaid s m n len result frame.old frame.new }
@@ -166,7 +165,7 @@ fn packet_laid(s: Settings, m: Mux, n: usize, len: usize, frame: &mut [u8]) -> R
     let to = m.taken + n;
     let start = start_now(m);
     let taken = taken_now(to, len);
-    Reply::Done {
+    Done {
         full: m.filled + n == s.zone,
         taken: to == len,
         mux: count_in(s, m, start, n, taken, frame),
@@ -174,25 +173,25 @@ fn packet_laid(s: Settings, m: Mux, n: usize, len: usize, frame: &mut [u8]) -> R
 }
 
 // Lays as many of the packet's octets into the zone as fit.
-fn lay_packet(s: Settings, m: Mux, p: &[u8], frame: &mut [u8]) -> Reply
+fn lay_packet(s: Settings, m: Mux, p: &[u8], frame: &mut [u8]) -> Done
     requires { first (put_rows s m p.now (length frame.old)) ≡ 0 }
-    ensures { answers result frame.new ≡ doing (put s m p.now frame.old) }
+    ensures { left_by result frame.new ≡ put s m p.now frame.old }
 {
     let from = m.taken;
-    let n = octets::least(s.zone - m.filled, p.len() - from);
-    octets::lay(frame, ZONE_AT + m.filled, p, from, from + n);
+    let n = (s.zone - m.filled).min(p.len() - from);
+    octets::lay(frame, ZONE_AT + m.filled, p, from, from + n).unwrap();
     packet_laid(s, m, n, p.len(), frame)
 }
 
 // Lays the idle packet that fills the zone, and so is taken whole.
-fn lay_idle_packet(s: Settings, m: Mux, frame: &mut [u8]) -> Reply
+fn lay_idle_packet(s: Settings, m: Mux, frame: &mut [u8]) -> Done
     requires { first (flush_rows s m (length frame.old)) ≡ 0 }
-    ensures { answers result frame.new ≡ doing (put s m (idle_packet s.fill (s.zone - m.filled)) frame.old) }
+    ensures { left_by result frame.new ≡ put s m (idle_packet s.fill (s.zone - m.filled)) frame.old }
 {
     let left = s.zone - m.filled;
-    wrapping::write_idle(frame, ZONE_AT + m.filled, left, s.fill);
+    wrapping::write_idle(frame, ZONE_AT + m.filled, left, s.fill).unwrap();
     let start = start_now(m);
-    Reply::Done {
+    Done {
         full: true,
         taken: true,
         mux: count_in(s, m, start, left, 0, frame),
@@ -200,66 +199,51 @@ fn lay_idle_packet(s: Settings, m: Mux, frame: &mut [u8]) -> Reply
 }
 
 // Fills the zone with the fill octet.
-fn lay_idle_zone(s: Settings, m: Mux, frame: &mut [u8]) -> Reply
+fn lay_idle_zone(s: Settings, m: Mux, frame: &mut [u8]) -> Done
     requires { first (idle_rows s m (length frame.old)) ≡ 0 }
-    ensures { answers result frame.new ≡ doing (idle_frame s m frame.old) }
+    ensures { left_by result frame.new ≡ idle_frame s m frame.old }
 {
-    octets::fill(frame, ZONE_AT + m.filled, s.zone, s.fill);
-    Reply::Done {
+    octets::fill(frame, ZONE_AT + m.filled, s.zone, s.fill).unwrap();
+    Done {
         full: true,
         taken: false,
         mux: count_in(s, m, IDLE_ZONE, s.zone, 0, frame),
     }
 }
 
-// Puts as many of the packet's octets as fit into the frame, after those already taken.
-pub fn put(s: Settings, m: Mux, p: &[u8], frame: &mut [u8]) -> Reply
-    ensures { answers result frame.new ≡ answer s m (to_put p.now) frame.old }
+// Puts as many of the packet's octets as fit into the frame, after those already taken. A refusal says what is wrong with the packet's header.
+#[tactic(auto, using(crate::proofs::Answers::refused, crate::proofs::Answers::done), unfolding(crate::specs::Calls::answers))]
+pub fn put(s: Settings, m: Mux, p: &[u8], frame: &mut [u8]) -> Result<Done, Refused>
+    ensures { answers m result frame.new ≡ answer s m (to_put p.now) frame.old }
 {
-    let refusal = put_refusal(s, m, p, frame.len());
-    if refusal != 0 {
-        return Reply::Refused {
-            refusal,
-            damage: packets::carried(refusal, s.limit, p),
-            mux: m,
-        };
-    }
-    lay_packet(s, m, p, frame)
+    may_put(s, m, p, frame.len()).map_err(|refusal| Refused {
+        refusal,
+        damage: packets::carried(refusal, s.limit, p),
+    })?;
+    Ok(lay_packet(s, m, p, frame))
 }
 
 // Fills a begun zone with one idle packet; an empty zone stays as it is.
-pub fn flush(s: Settings, m: Mux, frame: &mut [u8]) -> Reply
-    ensures { answers result frame.new ≡ answer s m to_flush frame.old }
+#[tactic(auto, using(crate::proofs::Answers::refused, crate::proofs::Answers::done), unfolding(crate::specs::Calls::answers_alone, crate::specs::Multiplex::flush))]
+pub fn flush(s: Settings, m: Mux, frame: &mut [u8]) -> Result<Done, Refusal>
+    ensures { answers_alone m result frame.new ≡ answer s m to_flush frame.old }
 {
-    let refusal = flush_refusal(s, m, frame.len());
-    if refusal != 0 {
-        return Reply::Refused {
-            refusal,
-            damage: damage::NONE,
-            mux: m,
-        };
-    }
+    may_flush(s, m, frame.len())?;
     if m.filled == 0 {
-        return Reply::Done {
+        return Ok(Done {
             full: false,
             taken: false,
             mux: m,
-        };
+        });
     }
-    lay_idle_packet(s, m, frame)
+    Ok(lay_idle_packet(s, m, frame))
 }
 
 // Writes a frame whose zone is idle: the fill octet throughout.
-pub fn idle_zone(s: Settings, m: Mux, frame: &mut [u8]) -> Reply
-    ensures { answers result frame.new ≡ answer s m to_idle frame.old }
+#[tactic(auto, using(crate::proofs::Answers::refused, crate::proofs::Answers::done), unfolding(crate::specs::Calls::answers_alone))]
+pub fn idle_zone(s: Settings, m: Mux, frame: &mut [u8]) -> Result<Done, Refusal>
+    ensures { answers_alone m result frame.new ≡ answer s m to_idle frame.old }
 {
-    let refusal = idle_refusal(s, m, frame.len());
-    if refusal != 0 {
-        return Reply::Refused {
-            refusal,
-            damage: damage::NONE,
-            mux: m,
-        };
-    }
-    lay_idle_zone(s, m, frame)
+    may_idle(s, m, frame.len())?;
+    Ok(lay_idle_zone(s, m, frame))
 }

@@ -3,16 +3,19 @@
 use mathlib.Core.Path.{◌≡◌, refl, sym, ap, ◌∙◌}
 use mathlib.Core.List.{List, [], ◌∷◌, ◌++◌}
 use Prim.Native.Nat.{ℕ, zero, suc, ◌+◌, ◌*◌, ◌/◌, ◌%◌, ◌^◌, ◌≤◌, ◌<◌}
-use native.Mathlib.Nat.{add-mul, mul_assoc, mul-one, zero-add, add-zero, mul-suc, add_assoc, add_comm, mod-one, mod-eq_of_lt, one-le-pow, zero-lt-suc, pow-zero, pow-succ'}
+use native.Mathlib.Nat.{add-mul, mul_assoc, mul-one, zero-add, add-zero, mul-suc, add_assoc, add_comm, mod-one, mod-eq_of_lt, mod-le, one-le-pow, zero-lt-suc, pow-zero, pow-succ'}
 use native.Mathlib.Omega.{arith}
+use native.Mathlib.Numerals.{add-one}
+use Rattle.std.proofs.Common.{lt_of_lt_of_le, lt_of_le_of_lt, pow_mono}
+use Rattle.std.proofs.lemmas.Nat.{mod-mul-add, mod_below}
 use lib.ListN.{length, take, drop, get_or, length-drop, get_or-eq_default}
-use lib.Seq.{take-add, drop-drop, length-take-le, drop-cons}
+use lib.Seq.{take-add, drop-drop, take-suc, length-take-le, drop-cons}
 use lib.Bits.{bit_or, or_shifted}
-use lib.Pow.{pow-add, shl_exact}
+use lib.Pow.{pow-add}
 use lib.Arith.{digits_lt, digits_div, digits_mod, mod-mul}
 use borrow.Author.Tests.{le-leb, lt-leb}
 use Rattle.octets.proofs.Choices.{split}
-use Rattle.octets.proofs.Fronts.{all_take, all_drop}
+use Rattle.octets.proofs.Fronts.{all_take, all_drop, octet_lt}
 use Rattle.octets.specs.Basics.{AllOctets, number, number_from, number_at, octets}
 
 from-append : (n : ℕ) (a b : List ℕ) → number_from n (a ++ b) ≡ number_from (number_from n a) b
@@ -55,15 +58,36 @@ run_join s at m k h =
     let e : length (take k (drop (at + m) s)) ≡ k = length-take-le k (drop (at + m) s) (rw length-drop (omega arith)) in
     rw (take-add m k (drop at s), drop-drop m at s, from-append, from_split (number_from 0 (take m (drop at s))) (take k (drop (at + m) s)), e)
 
--- the same by a shift and an or, within a word
-pub shift_or : (bits : ℕ) (s : List ℕ) (at m k : ℕ) → AllOctets s → at + (m + k) ≤ length s → 8 * m + 8 * k ≤ bits
-    → bit_or (number (take m (drop at s)) * 2 ^ (8 * k) % 2 ^ bits) (number (take k (drop (at + m) s))) ≡ number (take (m + k) (drop at s))
-shift_or bits s at m k o h f =
-    rw (
-      shl_exact (8 * m) (8 * k) bits (run_lt s at m o (omega arith)) f,
-      or_shifted (number (take m (drop at s))) (8 * k) _ (run_lt s (at + m) k o (omega arith)),
-    )
-    (sym (run_join s at m k h))
+-- a word of 64 bits with an octet more: what its top octet was is gone
+word_more : (n o : ℕ) → o < 256 → (n * 256 + o) % 2 ^ 64 ≡ n % 2 ^ 56 * 256 + o
+word_more n o h =
+    mod-mul (n * 256 + o) {m = 2 ^ 56} {c = 256} (omega arith) (omega arith)
+    ∙ ap (λ (k : ℕ). k % 2 ^ 56 * 256 + (n * 256 + o) % 256) (digits_div n h)
+    ∙ ap (λ (k : ℕ). n % 2 ^ 56 * 256 + k) (digits_mod n h)
+
+word_low : (n : ℕ) → n % 2 ^ 64 % 2 ^ 56 ≡ n % 2 ^ 56
+word_low n =
+    ap (λ (k : ℕ). k % 2 ^ 56) (mod-mul n {m = 256} {c = 2 ^ 56} (omega arith) (omega arith))
+    ∙ mod-mul-add (n / 2 ^ 56 % 256) (2 ^ 56) (n % 2 ^ 56) (mod_below n (2 ^ 56) (omega arith))
+
+octet_more : (n o : ℕ) → o < 256 → bit_or (n % 2 ^ 64 * 256 % 2 ^ 64) o ≡ (n * 256 + o) % 2 ^ 64
+octet_more n o h =
+    let up : n % 2 ^ 64 * 256 % 2 ^ 64 ≡ n % 2 ^ 56 * 256 =
+    ap (λ (k : ℕ). k % 2 ^ 64) (sym (add-zero (n % 2 ^ 64 * 256))) ∙ word_more (n % 2 ^ 64) 0 (omega arith)
+    ∙ add-zero (n % 2 ^ 64 % 2 ^ 56 * 256) ∙ ap (λ (k : ℕ). k * 256) (word_low n) in
+    ap (λ (k : ℕ). bit_or k o) up ∙ or_shifted (n % 2 ^ 56) 8 o h ∙ sym (word_more n o h)
+
+number_more : (os : List ℕ) (i : ℕ) → i < length os → number (take (i + 1) os) ≡ number (take i os) * 256 + get_or os i 0
+unfolding number number_from
+number_more os i h = rw (add-one, take-suc os i 0 h) (from-append 0 (take i os) (get_or os i 0 ∷ []))
+
+-- a turn that joins the octet at i
+pub octet_turn : (os : List ℕ) (i word : ℕ) → AllOctets os → i < length os → word ≡ number (take i os) % 2 ^ 64
+    → bit_or (word * 256 % 2 ^ 64) (get_or os i 0) ≡ number (take (i + 1) os) % 2 ^ 64
+octet_turn os i word h l e =
+    ap (λ (k : ℕ). bit_or (k * 256 % 2 ^ 64) (get_or os i 0)) e
+    ∙ octet_more (number (take i os)) (get_or os i 0) (octet_lt os h i)
+    ∙ ap (λ (k : ℕ). k % 2 ^ 64) (sym (number_more os i l))
 
 pub number_within : (n at : ℕ) (s : List ℕ) → at + n ≤ length s → number_at n at s ≡ number (take n (drop at s))
 unfolding number_at
@@ -72,6 +96,19 @@ number_within n at s h = simp (le-leb _ _ h)
 pub number_past : (n at : ℕ) (s : List ℕ) → length s < at + n → number_at n at s ≡ 0
 unfolding number_at
 number_past n at s h = simp (lt-leb _ _ h)
+
+-- n octets make less than their bits hold, and so does what a word has of it
+pub number_at_short : (n at : ℕ) (s : List ℕ) → AllOctets s → number_at n at s % 2 ^ 64 < 2 ^ (8 * n)
+number_at_short n at s o =
+    lt_of_le_of_lt (mod-le (number_at n at s) (2 ^ 64))
+    (split (at + n) (length s) (λ i. rw (number_within n at s i) (run_lt s at n o i)) (λ p. rw (number_past n at s p) (one-le-pow (8 * n) 2 (omega arith))))
+
+-- eight octets at most make a number of 64 bits
+pub number_at_fits : (n at : ℕ) (s : List ℕ) → AllOctets s → n ≤ 8 → number_at n at s % 2 ^ 64 ≡ number_at n at s
+number_at_fits n at s o h =
+    split (at + n) (length s)
+    (λ i. mod-eq_of_lt (rw (number_within n at s i) (lt_of_lt_of_le (run_lt s at n o i) (pow_mono {i = 8 * n} {j = 64} (omega arith)))))
+    (λ p. rw (number_past n at s p) refl)
 
 pub one_octet : (s : List ℕ) (at : ℕ) → at < length s → number (take 1 (drop at s)) ≡ get_or s at 0
 unfolding number number_from

@@ -1,21 +1,16 @@
--- Unwrapping: what is answered where a row holds, and where none does.
+-- Unwrapping: what is answered where no row holds.
 -- Assumes nothing.
 use mathlib.Core.Path.{◌≡◌, refl}
 use mathlib.Core.List.{List}
-use mathlib.Core.Bool.{true, false}
+use mathlib.Core.Bool.{true}
 use Prim.Native.Nat.{ℕ, ◌-◌}
 use lib.ListN.{length, get_or}
-use borrow.Author.Tests.{eq-eqb, ne_eqb}
+use borrow.Author.Tests.{eq-eqb}
 use Rattle.octets.specs.Basics.{first}
-use Rattle.packets.specs.Packet.{carried, protocol_of, header_length}
+use Rattle.packets.specs.Packet.{protocol_of, header_length}
 use Rattle.packets.specs.Unwrap.{its_length_of_length, extension_of, unwrap_rows, unwrapping}
 
 module _ (limit : ℕ) (p : List ℕ) where
-  pub unwrapping_refused : (first (unwrap_rows limit p) ≡ 0 → ⊥)
-      → unwrapping limit p ≡ record { accepted = false; refusal = first (unwrap_rows limit p); damage = carried (first (unwrap_rows limit p)) limit p; protocol = 0; extension = 0; start = 0; size = 0 }
-  unfolding unwrapping
-  unwrapping_refused h = rw (ne_eqb (first (unwrap_rows limit p)) 0 h) refl
-
   pub unwrapping_done : first (unwrap_rows limit p) ≡ 0
       → unwrapping limit p
       ≡ record {

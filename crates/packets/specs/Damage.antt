@@ -1,7 +1,20 @@
 -- What can be wrong with a packet's header: a test for each, over the octets that are there and the limit.
-use Rattle.std.specs.Prelude.{ℕ, ◌+◌, ◌/◌, ◌↔◌, ◌≡◌, List, [], ◌∷◌, Bool, true, false, not, length, leb, ltb, eqb}
+use Rattle.std.specs.Prelude.{ℕ, ◌+◌, ◌/◌, ◌↔◌, ◌≡◌, List, [], ◌∷◌, Bool, true, false, Option, None, Some, not, length, leb, ltb, eqb}
 use Rattle.octets.specs.Basics.{pick, and, number, part}
 use Rattle.packets.specs.Packet.{limit_in_range, damaged, look, packet_version, protocol_of, length_of_length, size_of}
+use Rattle.packets.specs.declared.damage.Damage.{Damage}
+
+-- the number of each
+abbrev pub damage_number : Damage → ℕ
+damage_number Damage.Version = 1
+damage_number Damage.NotIdle = 2
+damage_number Damage.BelowHeader = 3
+damage_number Damage.OverLimit = 4
+
+-- 0 where nothing is wrong
+abbrev pub damage_or_0 : Option Damage → ℕ
+damage_or_0 None = 0
+damage_or_0 (Some d) = damage_number d
 
 -- whether there is a first octet, and it is so
 abbrev pub first_is : (ℕ → Bool) → List ℕ → Bool

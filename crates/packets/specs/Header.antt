@@ -1,12 +1,14 @@
 -- What the header reader answers, in numbers.
-use Rattle.std.specs.Prelude.{ℕ, List, Bool, false, get_or}
+use Rattle.std.specs.Prelude.{ℕ, List, Bool, false, Result, Ok, Err, get_or}
 use Rattle.octets.specs.Basics.{pick}
+use Rattle.octets.specs.Refusals.{number_of}
+use Rattle.octets.specs.declared.refusals.Refusal.{Refusal}
 use Rattle.packets.specs.Packet.{Look, more, damaged, whole, look, limit_in_range, packet_version, key_of, is_idle, size_of}
 use Rattle.packets.specs.declared.Seen.{Seen}
 use Rattle.packets.specs.declared.Kind.{Kind}
 use Rattle.packets.specs.declared.Kind.TheVariants.{Space, Encapsulation}
 use Rattle.packets.specs.declared.Header.{Header}
-use Rattle.packets.specs.declared.Header.TheVariants.{Refused, More, Damaged, Whole}
+use Rattle.packets.specs.Damage.{damage_number}
 
 -- what is answered of octets that begin a packet
 pub record Reading : Type 0 where
@@ -61,11 +63,11 @@ version_of Space = 0
 version_of Encapsulation = 7
 
 -- an answer in numbers
-unfoldable pub answer : Header → Reading
-answer (Refused refusal) = bare refusal 0 0
-answer More = bare 0 1 0
-answer (Damaged d) = bare 0 2 d
-answer (Whole kind key idle size total) = record {
+unfoldable pub answer : Result Header Refusal → Reading
+answer (Err r) = bare (number_of r) 0 0
+answer (Ok Header.More) = bare 0 1 0
+answer (Ok (Header.Damaged d)) = bare 0 2 (damage_number d)
+answer (Ok (Header.Whole kind key idle size total)) = record {
   refusal = 0;
   outcome = 3;
   version = version_of kind;
@@ -79,5 +81,5 @@ answer (Whole kind key idle size total) = record {
 -- what an answer of the length alone says
 unfoldable pub seen : Seen → Look
 seen Seen.More = more
-seen (Seen.Damaged d) = damaged d
+seen (Seen.Damaged d) = damaged (damage_number d)
 seen (Seen.Whole total) = whole total

@@ -1,5 +1,5 @@
 pub mod Packet
-pub mod Header
 pub mod Damage
+pub mod Header
 pub mod Unwrap
 pub mod Passes

@@ -1,9 +1,12 @@
 -- Unwrapping an encapsulation packet.
-use Rattle.std.specs.Prelude.{ℕ, ◌-◌, List, [], ◌∷◌, Bool, true, false, not, length, get_or, leb, eqb}
+use Rattle.std.specs.Prelude.{ℕ, ◌-◌, List, [], ◌∷◌, Bool, true, false, Result, Ok, Err, not, length, get_or, leb, eqb}
 use Rattle.octets.specs.Basics.{pick, and, or, number_at, part_of, Row, row, first}
+use Rattle.octets.specs.Refusals.{number_of}
 use Rattle.words.specs.Fields.{field}
 use Rattle.packets.specs.Packet.{limit_in_range, well_formed, carried, packet_version, protocol_of, length_of_length, header_length}
-use Rattle.packets.specs.declared.unwrapping.Unwrapped.{Unwrapped}
+use Rattle.packets.specs.Damage.{damage_or_0}
+use Rattle.packets.specs.declared.damage.Refused.{Refused}
+use Rattle.packets.specs.declared.unwrapping.Unit.{Unit}
 
 -- the length-of-length of a packet's header
 abbrev pub its_length_of_length : List ℕ → ℕ
@@ -45,11 +48,11 @@ unwrapping limit p =
     (record { accepted = false; refusal = refusal; damage = carried refusal limit p; protocol = 0; extension = 0; start = 0; size = 0 })
 
 -- an answer in numbers
-unfoldable pub unwraps : Unwrapped → Unwrapping
-unwraps (Unwrapped.Refused refusal damage) = record { accepted = false; refusal = refusal; damage = damage; protocol = 0; extension = 0; start = 0; size = 0 }
-unwraps (Unwrapped.Unit protocol extension start size) = record { accepted = true; refusal = 0; damage = 0; protocol = protocol; extension = extension; start = start; size = size }
+unfoldable pub unwraps : Result Unit Refused → Unwrapping
+unwraps (Err r) = record { accepted = false; refusal = number_of r.refusal; damage = damage_or_0 r.damage; protocol = 0; extension = 0; start = 0; size = 0 }
+unwraps (Ok u) = record { accepted = true; refusal = 0; damage = 0; protocol = u.protocol; extension = u.extension; start = u.start; size = u.size }
 
 -- the part of a packet that an answer speaks of, empty on a refusal
-unfoldable pub unit_part : List ℕ → Unwrapped → List ℕ
-unit_part p (Unwrapped.Refused refusal damage) = []
-unit_part p (Unwrapped.Unit protocol extension start size) = part_of p start size
+unfoldable pub unit_part : List ℕ → Result Unit Refused → List ℕ
+unit_part p (Err r) = []
+unit_part p (Ok u) = part_of p u.start u.size

@@ -1,19 +1,22 @@
 // Packets read: the one header reader, the test for well-formed packets, and unwrapping.
 #![tactic(auto)]
 
-ghost use Rattle.std.specs.Prelude.{◌≡◌, ◌/◌, ◌≤◌, length, get_or};
+ghost use Rattle.std.specs.Prelude.{◌≡◌, ◌/◌, ◌≤◌, length, get_or, Ok};
 ghost use Rattle.octets.specs.Basics.{and, number_at};
+ghost use Rattle.octets.specs.Refusals.{number_of};
 ghost use Rattle.words.specs.Fields.{read};
 ghost use Rattle.packets.specs.Packet.{whole, limit_in_range, apid, OfAKind, packet_version, protocol_of, length_of_length, header_length, sized, encapsulation, look, damage_in, carried, is_idle, well_formed};
+ghost use Rattle.packets.specs.Damage.{damage_or_0};
 ghost use Rattle.packets.specs.Header.{seen, told, reading, answer};
 
-use octets::{limits, refusals};
+use octets::{Refusal, limits};
 use words::Place;
 
-pub mod damage;
+mod damage;
 mod unwrapping;
 
-pub use unwrapping::{Unwrapped, unit_part, unwrap};
+pub use damage::{Damage, Refused};
+pub use unwrapping::{Unit, unit_part, unwrap};
 
 // The fields of a packet's first octet, and of a space packet's first two.
 pub const VERSION: Place = Place { below: 5, width: 3 };
@@ -43,7 +46,7 @@ const IDLE_APID: u64 = 2047;
 const IDLE_PROTOCOL: u8 = 0;
 
 // The greatest length-of-length: both of its bits are 1.
-const MOST_CODE: usize = 3;
+const MOST_CODE: u8 = 3;
 
 // The protocol that the extension names further: its headers have one.
 pub const EXTENDED_PROTOCOL: u8 = 6;
@@ -52,25 +55,19 @@ pub const EXTENDED_PROTOCOL: u8 = 6;
 pub const EXTENSION: Place = Place { below: 0, width: 4 };
 
 // The kinds of packet.
-#[derive(Clone, Copy)]
+#[derive(Clone, Copy, Debug, PartialEq, Eq)]
 pub enum Kind {
     Space,
     Encapsulation,
 }
 
 // What the first octets of a packet tell.
-#[derive(Clone, Copy)]
+#[derive(Clone, Copy, Debug, PartialEq, Eq)]
 pub enum Header {
-    // The limit is out of range.
-    Refused {
-        refusal: u8,
-    },
     // The header is not whole yet.
     More,
     // No packet begins so: what is wrong.
-    Damaged {
-        damage: u8,
-    },
+    Damaged(Damage),
     // The packet's kind, its APID or protocol, whether it is idle, its header's length and its own.
     Whole {
         kind: Kind,
@@ -82,18 +79,19 @@ pub enum Header {
 }
 
 // What the first octets of a packet say of its length.
-#[derive(Clone, Copy)]
+#[derive(Clone, Copy, Debug, PartialEq, Eq)]
 pub enum Seen {
     More,
-    Damaged { damage: u8 },
+    Damaged(Damage),
     Whole { total: usize },
 }
 
 // Whether a limit can be set.
-fn in_range(limit: usize) -> bool
+#[tactic(auto, unfolding(crate::specs::Packet::limit_in_range))]
+pub fn in_range(limit: usize) -> bool
     ensures { result ≡ limit_in_range limit }
 {
-    (limits::LEAST <= limit) & (limit <= limits::MOST)
+    (limits::LEAST..=limits::MOST).contains(&limit)
 }
 
 // The length of an encapsulation packet's header for its length-of-length field, which is `code` in this crate: one octet, doubled `code`
@@ -103,43 +101,33 @@ fn in_range(limit: usize) -> bool
 pub fn header_length(code: u8) -> usize
     ensures { result ≡ header_length code }
 {
-    1 << octets::least(code as usize, MOST_CODE)
+    1 << code.min(MOST_CODE)
 }
 
 // A header of `size` octets is whole and states `total`.
+#[tactic(auto, unfolding(crate::specs::Packet::sized, crate::specs::Header::seen))]
 fn sized(limit: usize, size: usize, total: usize) -> Seen
     ensures { seen result ≡ sized limit size total }
 {
     if total < size {
-        return Seen::Damaged {
-            damage: damage::BELOW_HEADER,
-        };
+        return Seen::Damaged(Damage::BelowHeader);
     }
     if limit < total {
-        return Seen::Damaged {
-            damage: damage::OVER_LIMIT,
-        };
+        return Seen::Damaged(Damage::OverLimit);
     }
     Seen::Whole { total }
 }
 
 // The length field of an encapsulation header, its second half; 0 where it is not all there.
-fn stated(start: &[u8], code: u8) -> u32
+fn stated(start: &[u8], code: u8) -> u64
     ensures { result ≡ number_at (header_length code / 2) (header_length code / 2) start.now }
 {
     match code {
         0 => 0,
-        1 => octets::octet(start, 1) as u32,
-        2 => octets::number2(start, 2) as u32,
-        _ => octets::number4(start, 4),
+        1 => octets::number::<1>(start, 1),
+        2 => octets::number::<2>(start, 2),
+        _ => octets::number::<4>(start, 4),
     }
-}
-
-// The length of the packet that the field states: the header is counted in it.
-fn total_of(length: u32) -> usize
-    ensures { result ≡ length }
-{
-    length as usize
 }
 
 // What an encapsulation packet's first octets say.
@@ -150,15 +138,14 @@ fn encapsulation(limit: usize, protocol: u8, code: u8, start: &[u8]) -> Seen
         if protocol == IDLE_PROTOCOL {
             return Seen::Whole { total: 1 };
         }
-        return Seen::Damaged {
-            damage: damage::NOT_IDLE,
-        };
+        return Seen::Damaged(Damage::NotIdle);
     }
     let size = header_length(code);
     if start.len() < size {
         return Seen::More;
     }
-    sized(limit, size, total_of(stated(start, code)))
+    // The length is the packet's: the header is counted in it.
+    sized(limit, size, stated(start, code) as usize)
 }
 
 // A field of one of a packet's octets.
@@ -192,7 +179,7 @@ fn apid(start: &[u8]) -> u16
     requires { 2 ≤ length start.now }
     ensures { result ≡ apid start.now }
 {
-    words::field(octets::number2(start, 0) as u64, APID) as u16
+    words::field(octets::number::<2>(start, 0), APID) as u16
 }
 
 // What the first octets of a packet say of its length, as many as there are. No limit is refused.
@@ -208,34 +195,34 @@ pub fn read_length(limit: usize, start: &[u8]) -> Seen
         if len < SPACE_HEADER {
             return Seen::More;
         }
-        let total = octets::number2(start, 4) as usize + LENGTH_LESS;
+        let total = octets::number::<2>(start, 4) as usize + LENGTH_LESS;
         return sized(limit, SPACE_HEADER, total);
     }
     if version == ENCAPSULATION_VERSION {
         return encapsulation(limit, protocol(start), length_of_length(start), start);
     }
-    Seen::Damaged {
-        damage: damage::VERSION,
-    }
+    Seen::Damaged(Damage::Version)
 }
 
 // What is wrong with a header, by what was seen of it.
-pub fn damage_in(found: Seen) -> u8
-    ensures { result ≡ damage_in (seen found) }
+#[tactic(auto, unfolding(crate::specs::Packet::damage_in, crate::specs::Header::seen))]
+pub fn damage_in(found: Seen) -> Option<Damage>
+    ensures { damage_or_0 result ≡ damage_in (seen found) }
 {
     match found {
-        Seen::More => damage::NONE,
-        Seen::Damaged { damage } => damage,
-        Seen::Whole { .. } => damage::NONE,
+        Seen::More => None,
+        Seen::Damaged(damage) => Some(damage),
+        Seen::Whole { .. } => None,
     }
 }
 
-// What a refusal says of the packet that was lent: with PACKET what is wrong with its header, with any other number nothing.
-pub fn carried(refusal: u8, limit: usize, p: &[u8]) -> u8
-    ensures { result ≡ carried refusal limit p.now }
+// What a refusal says of the packet that was lent: `Packet` what is wrong with its header, and any other nothing.
+#[tactic(auto, unfolding(crate::specs::Packet::carried))]
+pub fn carried(refusal: Refusal, limit: usize, p: &[u8]) -> Option<Damage>
+    ensures { damage_or_0 result ≡ carried (number_of refusal) limit p.now }
 {
-    if refusal != refusals::PACKET {
-        return damage::NONE;
+    if refusal != Refusal::Packet {
+        return None;
     }
     damage_in(read_length(limit, p))
 }
@@ -245,15 +232,16 @@ pub fn is_idle(start: &[u8]) -> bool
     ensures { result ≡ is_idle start.now }
 {
     if version(start) == SPACE_VERSION {
-        return words::field(octets::number2(start, 0) as u64, APID) == IDLE_APID;
+        return words::field(octets::number::<2>(start, 0), APID) == IDLE_APID;
     }
     protocol(start) == IDLE_PROTOCOL
 }
 
 // What a whole header tells of its packet.
+#[tactic(auto, unfolding(crate::specs::Header::answer, crate::specs::Header::told, crate::specs::Header::version_of, crate::specs::Packet::key_of, crate::specs::Packet::size_of))]
 fn tell(start: &[u8], total: usize) -> Header
     requires { OfAKind start.now }
-    ensures { answer result ≡ told start.now (whole total) }
+    ensures { answer (Ok result) ≡ told start.now (whole total) }
 {
     if version(start) == SPACE_VERSION {
         return Header::Whole {
@@ -274,45 +262,42 @@ fn tell(start: &[u8], total: usize) -> Header
 }
 
 // What octets that begin a packet tell, as many as there are: `limit` is the greatest packet.
-pub fn read_header(limit: usize, start: &[u8]) -> Header
+#[tactic(auto, unfolding(crate::specs::Header::answer, crate::specs::Header::told, crate::specs::Header::reading, crate::specs::Header::seen))]
+pub fn read_header(limit: usize, start: &[u8]) -> Result<Header, Refusal>
     ensures { answer result ≡ reading limit start.now }
 {
     if !in_range(limit) {
-        return Header::Refused {
-            refusal: refusals::SETTING,
-        };
+        return Err(Refusal::Setting);
     }
-    match read_length(limit, start) {
+    Ok(match read_length(limit, start) {
         Seen::More => Header::More,
-        Seen::Damaged { damage } => Header::Damaged { damage },
+        Seen::Damaged(damage) => Header::Damaged(damage),
         Seen::Whole { total } => tell(start, total),
-    }
+    })
 }
 
 // What is wrong with a header that was read.
-pub fn header_damage(header: Header) -> u8
-    ensures { result ≡ (answer header).damage }
+#[tactic(auto, unfolding(crate::specs::Header::answer))]
+pub fn header_damage(header: Header) -> Option<Damage>
+    ensures { damage_or_0 result ≡ (answer (Ok header)).damage }
 {
-    let Header::Damaged { damage } = header else {
-        return damage::NONE;
+    let Header::Damaged(damage) = header else {
+        return None;
     };
-    damage
+    Some(damage)
 }
 
 // Whether a packet's header says the packet's own length.
+#[tactic(auto, unfolding(crate::specs::Packet::well_formed, crate::specs::Packet::states, crate::specs::Header::seen))]
 fn formed(limit: usize, p: &[u8]) -> bool
     ensures { result ≡ well_formed limit p.now }
 {
-    match read_length(limit, p) {
-        Seen::More => false,
-        Seen::Damaged { .. } => false,
-        Seen::Whole { total } => total == p.len(),
-    }
+    matches!(read_length(limit, p), Seen::Whole { total } if total == p.len())
 }
 
 // The same for a limit that is in range; no packet is well formed at any other.
 pub fn well_formed(limit: usize, p: &[u8]) -> bool
     ensures { result ≡ and (limit_in_range limit) (well_formed limit p.now) }
 {
-    in_range(limit) & formed(limit, p)
+    in_range(limit) && formed(limit, p)
 }

@@ -1,5 +1,5 @@
 pub mod Entries
-pub mod Turns
+pub mod Chains
 pub mod Tables
 pub mod Ways
 pub mod Headers

@@ -1,15 +1,18 @@
 -- Tables: what is loaded, and which tables loading makes.
 -- Assumes nothing.
 use mathlib.Core.Path.{◌≡◌, refl, sym, ap, ap₂, ◌∙◌}
-use mathlib.Core.List.{List, [], ◌∷◌, ◌++◌}
+use mathlib.Core.List.{List, [], ◌∷◌, ◌++◌, append-nil}
 use mathlib.Core.Bool.{true, false}
-use Prim.Native.Nat.{ℕ, zero, suc, ◌-◌, ◌≤◌}
+use Prim.Native.Nat.{ℕ, zero, suc, ◌+◌, ◌-◌, ◌≤◌, ◌<◌}
 use native.Mathlib.Omega.{arith}
-use lib.ListN.{length, take, drop, replicate, length-take, length-drop, take-append-drop}
-use lib.Seq.{length-take-le, take-append_seam, drop-append_seam}
-use borrow.Author.Tests.{eqb-true, ne_eqb, ltb-false, le-ltb}
+use lib.ListN.{length, take, drop, replicate, length-replicate, length-take, length-drop, take-append-drop, drop_of_length-le}
+use borrow.Rule.Slice.PartMut.{put_mid}
+use Rattle.std.proofs.lemmas.Slice.{put_mid-paste}
+use lib.Seq.{length-take-le, take_all, take-append_seam, drop-append_seam}
+use lib.Dec.{ltb}
+use borrow.Author.Tests.{eqb-true, ne_eqb, ltb-false, lt-ltb, le-ltb}
 use Rattle.octets.specs.Basics.{first}
-use Rattle.octets.proofs.Tests.{and_both}
+use Rattle.octets.proofs.Tests.{and_both, or_all}
 use Rattle.octets.proofs.Choices.{and_true, or_false, none_holds}
 use Rattle.relay.specs.Table.{unfit, load_rows, no_entry, clear, table_of, entries_of, is_table, loading}
 use Rattle.relay.specs.Laws.{Loads, Reached}
@@ -19,7 +22,15 @@ use Rattle.relay.proofs.Entries.{same_true, true_same, fit_entries, entries_fit}
 
 -- ---- the refusal
 
--- a list that is not refused, and one that is
+-- a list of too many entries is refused, and one that is unfit; any other is not
+pub too_many : (n : ℕ) (es : List Entry) → 32 < n → first (load_rows n es) ≡ 12
+unfolding load_rows first
+too_many n es h = rw (lt-ltb 32 n h) refl
+
+pub not_loadable : (n : ℕ) (es : List Entry) → unfit es ≡ true → first (load_rows n es) ≡ 12
+unfolding load_rows first
+not_loadable n es u = rw (u, or_all (ltb 32 n)) refl
+
 pub loadable : (n : ℕ) (es : List Entry) → n ≤ 32 → unfit es ≡ false → first (load_rows n es) ≡ 0
 unfolding load_rows first
 loadable n es h u = rw (le-ltb 32 n h, u) refl
@@ -59,6 +70,17 @@ pub table_made : (count : ℕ) (lent : List Entry) → count ≤ length lent
     → table_of (take count lent) ≡ record { count = count; entries = take count lent ++ replicate (32 - count) no_entry }
 unfolding table_of
 table_made count lent h = rw (length-take-le count lent h) refl
+
+-- what stands past them is filled
+pub table_filled : (count : ℕ) (lent past : List Entry) → length lent ≡ 32 → count ≤ 32 → past ≡ replicate (32 - count) no_entry
+    → put_mid count (32 - count) lent past ≡ take count lent ++ replicate (32 - count) no_entry
+table_filled count lent past long few e =
+    let room : ℕ = 32 - count in
+    let filling : List Entry = replicate (32 - count) no_entry in
+    let many : length filling ≡ 32 - count = length-replicate (32 - count) no_entry in
+    let past_end : drop (count + room) lent ≡ [] = drop_of_length-le lent (omega arith) in
+    put_mid-paste count room lent past filling room e refl (omega (arith, many, long))
+    ∙ rw (take_all room filling (omega (arith, many, long)), past_end, append-nil (take count lent ++ filling)) refl
 
 pub its_refusal : (old : Table) (count : ℕ) (lent : List Entry) → (loading old count lent).refusal ≡ first (load_rows count (take count lent))
 unfolding loading
@@ -103,6 +125,9 @@ passing t e = let k = and_true _ _ e in (eqb-true _ 0 k.0, k.1)
 -- what a table that passes says of its entries
 pub its_entries : (t : Table) → is_table t ≡ true → (t.count ≤ 32) × (unfit (entries_of t) ≡ false)
 its_entries t e = not_refused t.count (entries_of t) (passing t e).0
+
+pub few_entries : (t : Table) → is_table t ≡ true → t.count ≤ 32
+few_entries t e = (its_entries t e).0
 
 -- and of what stands past them
 pub past_entries : (t : Table) → is_table t ≡ true → drop t.count t.entries ≡ replicate (length (drop t.count t.entries)) no_entry

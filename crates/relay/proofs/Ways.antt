@@ -3,17 +3,14 @@
 use mathlib.Core.Path.{◌≡◌, refl, sym, ap, ◌∙◌}
 use mathlib.Core.List.{List, [], ◌∷◌, ◌++◌, Memᴰ}
 use mathlib.Core.Bool.{true, false}
-use Prim.Native.Nat.{ℕ, ◌-◌, ◌≤◌}
-use native.Mathlib.Nat.{zero-add}
+use Prim.Native.Nat.{ℕ, ◌≤◌, ◌<◌}
 use native.Mathlib.Omega.{arith}
-use lib.ListN.{length, take, drop, get_or}
-use lib.Seq.{length-take-le}
-use lib.Dec.{leb, ltb, eqb}
-use borrow.Author.Tests.{lt-ltb, le-ltb, le-leb, lt-leb, eqb-true}
-use Rattle.octets.specs.Basics.{first, over, part_fits, laid_part, Lays}
-use Rattle.octets.proofs.Written.{part_within, part_past}
+use lib.ListN.{length, drop, get_or}
+use lib.Dec.{ltb, eqb}
+use borrow.Author.Tests.{lt-ltb, le-ltb, eqb-true}
+use Rattle.octets.specs.Basics.{first}
 use Rattle.octets.proofs.Tests.{test}
-use Rattle.octets.proofs.Choices.{split, or_false}
+use Rattle.octets.proofs.Choices.{or_false}
 use Rattle.packets.specs.Packet.{limit_in_range, look, damage_in, carried, well_formed, packet_version, apid, is_idle}
 use Rattle.relay.specs.Table.{pair, above, unfit, entries_of, is_table}
 use Rattle.relay.specs.Route.{destinations, path, route_rows, refused, no_path, written, handed, routing}
@@ -69,53 +66,29 @@ unfolding written
 written_unrefused [] output = refl
 written_unrefused (d ∷ ds) output = refl
 
--- what is laid over the lent octets, where there is room for it and where not
-module _ (list out : List ℕ) (count : ℕ) (h : count ≤ length list) {r : ℕ} {left : List ℕ}
-    (laid : Lays (part_fits out 0 0 count list) (laid_part out 0 0 count list) r left) where
-  long : length (take count list) ≡ count
-  long = length-take-le count list h
-
-  fits : part_fits out 0 0 count list ≡ leb count (length out)
-  fits = rw (le-leb 0 count (omega arith), le-leb count (length list) h) (ap (λ (n : ℕ). leb n (length out)) (omega arith))
-
-  pub laid_none : (r ≡ 0 → ⊥) → refused r 0 left ≡ handed (take count list) out
+-- n destinations: no room for them, none, and some
+module _ (ds output : List ℕ) {n : ℕ} (many : n ≡ length ds) where
+  pub not_sent : length output < n → handed ds output ≡ refused 2 0 output
   unfolding handed
-  laid_none n =
-      split count (length out) (λ k. absurd (n (laid.answer ∙ rw (fits, le-leb count (length out) k) refl)))
-      (λ k.
-      let none : part_fits out 0 0 count list ≡ false = fits ∙ lt-leb count (length out) k in
-      rw (long, lt-ltb (length out) count k, laid.answer, none, laid.left, part_past out 0 0 count list none) refl)
+  not_sent h = rw (lt-ltb (length output) (length ds) (omega (arith, many))) refl
 
-  room : r ≡ 0 → count ≤ length out
-  room e = split count (length out) (λ k. k) (λ k. absurd (none (laid.answer ∙ rw (fits, lt-leb count (length out) k) refl)))
+  pub sent_nowhere : n ≡ 0 → handed ds output ≡ no_path output
+  unfolding handed written
+  sent_nowhere z = go ds (sym many ∙ z)
     where
-      none : r ≡ 2 → ⊥
-      none f = omega (arith, e, f)
+      go : (ds : List ℕ) → length ds ≡ 0 → handed ds output ≡ no_path output
+      go [] e = rw (le-ltb (length output) 0 (omega arith)) refl
+      go (d ∷ ds) e = absurd (omega (arith, e))
 
-  pub laid_there : r ≡ 0 → left ≡ take count list ++ drop count out
-  unfolding over
-  laid_there e =
-      let k : count ≤ length out = room e in
-      let same : count - 0 ≡ count = omega arith in
-      let there : laid_part out 0 0 count list ≡ over out 0 (take (count - 0) list) = part_within out 0 0 count list (omega arith) h (omega arith) in
-      laid.left ∙ there ∙ rw (same, long, zero-add count) refl
-
-  -- no destination, and some
-  laid_handed : r ≡ 0 → handed (take count list) out ≡ written (take count list) out
-  unfolding handed
-  laid_handed e = rw (long, le-ltb (length out) count (room e)) refl
-
-  pub sent_nowhere : r ≡ 0 → count ≡ 0 → no_path left ≡ handed (take count list) out
-  unfolding written
-  sent_nowhere e z = rw (laid_there e, laid_handed e, z) refl
-
-  pub sent : r ≡ 0 → (count ≡ 0 → ⊥) → record { refusal = 0; damage = 0; outcome = 2; count = count; output = left } ≡ handed (take count list) out
-  unfolding written
-  sent e z = rw (laid_there e, laid_handed e) (some (take count list) long)
+  pub sent : (n ≡ 0 → ⊥) → n ≤ length output
+      → handed ds output ≡ record { refusal = 0; damage = 0; outcome = 2; count = n; output = ds ++ drop (length ds) output }
+  unfolding handed written
+  sent z h = rw many (go ds (λ e. z (many ∙ e)) (omega (arith, many)))
     where
-      some : (ds : List ℕ) → length ds ≡ count → record { refusal = 0; damage = 0; outcome = 2; count = count; output = ds ++ drop count out } ≡ written ds out
-      some [] n = absurd (z (sym n))
-      some (d ∷ ds) n = rw (← n) refl
+      go : (ds : List ℕ) → (length ds ≡ 0 → ⊥) → length ds ≤ length output
+          → handed ds output ≡ record { refusal = 0; damage = 0; outcome = 2; count = length ds; output = ds ++ drop (length ds) output }
+      go [] z h = absurd (z refl)
+      go (d ∷ ds) z h = rw (le-ltb (length output) (length (d ∷ ds)) h) refl
 
 -- where limit and table are in order
 module _ (limit : ℕ) (t : Table) (p output : List ℕ) (l : limit_in_range limit ≡ true) (m : is_table t ≡ true) where
@@ -142,11 +115,6 @@ module _ (limit : ℕ) (t : Table) (p output : List ℕ) (l : limit_in_range lim
     idle = λ w i. nowhere w (path_idle (entries_of t) p i);
     encapsulation = λ w v. nowhere w (path_encapsulation (entries_of t) p v);
     no_entry = λ w none. nowhere w (path_none (entries_of t) p (none_listed (apid p) (entries_of t) none));
-    no_room = λ w i v r. by_space w i v ∙ rw (lt-ltb (length output) (length (destinations (apid p) (entries_of t))) r) refl;
-    path = λ w i v h r. by_space w i v ∙ whole (destinations (apid p) (entries_of t)) h r;
+    no_room = λ w i v r. by_space w i v ∙ not_sent (destinations (apid p) (entries_of t)) output refl r;
+    path = λ w i v h r. by_space w i v ∙ sent (destinations (apid p) (entries_of t)) output refl (λ z. omega (arith, z, h)) r;
   }
-    where
-      whole : (ds : List ℕ) → 1 ≤ length ds → length ds ≤ length output
-          → handed ds output ≡ record { refusal = 0; damage = 0; outcome = 2; count = length ds; output = ds ++ drop (length ds) output }
-      whole [] h r = absurd (omega arith)
-      whole (d ∷ ds) h r = rw (le-ltb (length output) (length (d ∷ ds)) r) refl

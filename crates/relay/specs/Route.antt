@@ -1,21 +1,18 @@
 -- The way of a packet by a relay table.
-use Rattle.std.specs.Prelude.{◌≡◌, ℕ, ◌≤◌, List, [], ◌∷◌, ◌++◌, not, length, take, drop, ltb, eqb}
+use Rattle.std.specs.Prelude.{ℕ, List, [], ◌∷◌, ◌++◌, Option, None, Some, Result, Ok, Err, not, length, drop, ltb, eqb}
 use Rattle.octets.specs.Basics.{pick, Row, row, first}
+use Rattle.octets.specs.Refusals.{number_of}
 use Rattle.packets.specs.Packet.{limit_in_range, carried, well_formed, apid, by_kind, is_idle}
+use Rattle.packets.specs.Damage.{damage_or_0}
+use Rattle.packets.specs.declared.damage.Refused.{Refused}
 use Rattle.relay.specs.Table.{entries_of, is_table}
 use Rattle.relay.specs.declared.Entry.{Entry}
 use Rattle.relay.specs.declared.Table.{Table}
-use Rattle.relay.specs.declared.Routed.{Routed}
 
 -- the destinations of an APID: those of its entries, in their order
 unfoldable pub destinations : ℕ → List Entry → List ℕ
 destinations apid [] = []
 destinations apid (e ∷ es) = pick (eqb e.apid apid) (e.destination ∷ destinations apid es) (destinations apid es)
-
--- a list of octets whose first `count`, 32 at most, are the destinations of an APID
-pub record Found (apid : ℕ) (es : List Entry) (count : ℕ) (list : List ℕ) : Type 0 where
-  pub most : count ≤ 32
-  pub front : take count list ≡ destinations apid es
 
 -- where a packet goes: an idle packet and an encapsulation packet go nowhere
 unfoldable pub path : List Entry → List ℕ → List ℕ
@@ -64,7 +61,7 @@ routing limit t p output =
     pick (eqb refusal 0) (written (path (entries_of t) p) output) (refused refusal (carried refusal limit p) output)
 
 -- an answer, and the lent octets as they are left
-unfoldable pub routes : Routed → List ℕ → Routing
-routes (Routed.Refused n damage) output = refused n damage output
-routes Routed.NoPath output = no_path output
-routes (Routed.Path count) output = record { refusal = 0; damage = 0; outcome = 2; count = count; output = output }
+unfoldable pub routes : Result (Option ℕ) Refused → List ℕ → Routing
+routes (Err r) output = refused (number_of r.refusal) (damage_or_0 r.damage) output
+routes (Ok None) output = no_path output
+routes (Ok (Some count)) output = record { refusal = 0; damage = 0; outcome = 2; count = count; output = output }

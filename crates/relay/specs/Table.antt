@@ -1,9 +1,10 @@
 -- Relay tables: which lists of entries are tables, and loading one.
-use Rattle.std.specs.Prelude.{ℕ, ◌-◌, List, [], ◌∷◌, ◌++◌, Bool, true, false, length, take, drop, replicate, ltb, eqb}
+use Rattle.std.specs.Prelude.{ℕ, ◌-◌, List, [], ◌∷◌, ◌++◌, Bool, true, false, Result, length, take, drop, replicate, ltb, eqb}
 use Rattle.octets.specs.Basics.{pick, and, or, Row, row, first}
+use Rattle.octets.specs.Refusals.{refusal_of}
+use Rattle.octets.specs.declared.refusals.Refusal.{Refusal}
 use Rattle.relay.specs.declared.Entry.{Entry}
 use Rattle.relay.specs.declared.Table.{Table}
-use Rattle.relay.specs.declared.Loaded.{Loaded}
 
 -- an entry is a pair: an APID and a destination
 abbrev pub pair : ℕ → ℕ → Entry
@@ -51,6 +52,19 @@ empty = table_of []
 -- the list of a table
 abbrev pub entries_of : Table → List Entry
 entries_of t = take t.count t.entries
+
+-- what comes of loading: the refusal, or 0, and the table to go on with
+pub record Loaded : Type 0 where
+  pub refusal : ℕ
+  pub table : Table
+
+-- a load that is refused by n leaves the old table
+abbrev pub load_refused : ℕ → Table → Loaded
+load_refused n old = record { refusal = n; table = old }
+
+-- an answer, and the table as it is left
+abbrev pub loads : Result (Unit {0}) Refusal → Table → Loaded
+loads answer table = record { refusal = refusal_of answer; table = table }
 
 -- loading the first `count` of the entries that are lent: they take the old table's place, which stays where they are refused
 unfoldable pub loading : Table → ℕ → List Entry → Loaded

@@ -1,16 +1,15 @@
 // Relays: a table of the destinations that each APID has, and the way of a space packet by it.
 #![tactic(auto)]
 
-ghost use Rattle.std.specs.Prelude.{◌≡◌, List, ◌++◌, true, ℕ, ◌-◌, ◌≤◌, length, take, drop, replicate};
-ghost use Rattle.std.proofs.Math.Seq.{slice};
+ghost use Rattle.std.specs.Prelude.{◌≡◌, ◌++◌, true, ℕ, ◌≤◌, Ok, length, take, drop};
 ghost use Rattle.octets.specs.Basics.{first};
-ghost use Rattle.packets.specs.Packet.{limit_in_range};
+ghost use Rattle.octets.specs.Refusals.{refusal_of};
 ghost use Rattle.packets.specs.Header.{reading, answer};
-ghost use Rattle.relay.specs.Table.{same, stands, unfit, no_entry, clear, load_rows, is_table, empty, loading};
-ghost use Rattle.relay.specs.Route.{Found, handed, routing, routes};
+ghost use Rattle.relay.specs.Table.{stands, unfit, clear, load_rows, is_table, empty, loading, loads};
+ghost use Rattle.relay.specs.Route.{destinations, handed, routing, routes};
 
-use octets::refusals;
-use packets::{Header, Kind, damage};
+use octets::Refusal;
+use packets::{Header, Kind, Refused};
 
 // A table has so many entries at most.
 pub const MOST_ENTRIES: usize = 32;
@@ -19,7 +18,7 @@ pub const MOST_ENTRIES: usize = 32;
 const MOST_APID: u16 = 2046;
 
 // An APID, and one destination of its packets.
-#[derive(Clone, Copy)]
+#[derive(Clone, Copy, Debug, PartialEq, Eq)]
 pub struct Entry {
     pub apid: u16,
     pub destination: u8,
@@ -32,38 +31,14 @@ const NO_ENTRY: Entry = Entry {
 };
 
 // A relay table: its entries are the first `count`.
-#[derive(Clone, Copy)]
+#[derive(Clone, Copy, Debug, PartialEq, Eq)]
 pub struct Table {
     pub count: usize,
     pub entries: [Entry; MOST_ENTRIES],
 }
 
-// What comes of loading: the refusal, or 0, and the table to go on with.
-#[derive(Clone, Copy)]
-pub struct Loaded {
-    pub refusal: u8,
-    pub table: Table,
-}
-
-// What comes of routing a packet.
-#[derive(Clone, Copy)]
-pub enum Routed {
-    // The number of the refusal; and of refusal 8 what is wrong with the packet's header, or 0.
-    Refused { refusal: u8, damage: u8 },
-    // The packet goes nowhere.
-    NoPath,
-    // So many destinations are written.
-    Path { count: usize },
-}
-
-// The destinations of one APID: the first `count`.
-#[derive(Clone, Copy)]
-struct Listed {
-    count: usize,
-    list: [u8; MOST_ENTRIES],
-}
-
 // The table with no entry.
+#[tactic(auto, unfolding(crate::specs::Table::table_of))]
 pub fn empty() -> Table
     ensures { result ≡ empty }
 {
@@ -73,155 +48,121 @@ pub fn empty() -> Table
     }
 }
 
-fn same(a: Entry, b: Entry) -> bool
-    ensures { result ≡ same a b }
+// Whether an entry is among others. (`contains` would make routing slower.)
+fn stands(e: &Entry, entries: &[Entry]) -> bool
+    ensures { result ≡ stands e.now entries.now }
 {
-    (a.apid == b.apid) & (a.destination == b.destination)
+    entries.iter().any(|f| f == e)
 }
 
-// Whether an entry stands among those from `from` up to `to`.
-fn stands(e: Entry, entries: [Entry; MOST_ENTRIES], from: usize, to: usize) -> bool
-    requires { to ≤ 32 }
-    ensures { result ≡ stands e (slice from to entries) }
+// Whether one of the entries has an APID that no table has, or stands there twice.
+#[tactic(auto, using(crate::proofs::Chains::unfit_above, crate::proofs::Chains::unfit_again, crate::proofs::Chains::unfit_behind, crate::proofs::Chains::unfit_none))]
+fn unfit(entries: &[Entry]) -> bool
+    ensures { result ≡ unfit entries.now }
 {
-    let mut i = from;
-    while i < to {
-        if same(e, entries[i]) {
+    for (i, e) in entries.iter().enumerate() {
+        if MOST_APID < e.apid || stands(e, &entries[i + 1..]) {
             return true;
         }
-        i += 1;
     }
     false
 }
 
-// Whether one of the first `count` has an APID that no entry has, or stands there twice.
-fn unfit(entries: [Entry; MOST_ENTRIES], count: usize) -> bool
-    requires { count ≤ 32 }
-    ensures { result ≡ unfit (take count entries) }
+// Whether the first `count` can be a table's entries; or the refusal.
+#[tactic(auto, using(crate::proofs::Tables::too_many, crate::proofs::Tables::not_loadable, crate::proofs::Tables::loadable))]
+fn may_load(count: usize, entries: &[Entry; MOST_ENTRIES]) -> Result<(), Refusal>
+    ensures value { refusal_of result ≡ first (load_rows count (take count entries.now)) }
+    ensures few { refusal_of result ≡ 0 → count ≤ 32 }
 {
-    let mut i = 0;
-    while i < count {
-        let e = entries[i];
-        if (MOST_APID < e.apid) | stands(e, entries, i + 1, count) {
-            return true;
-        }
-        i += 1;
+    if MOST_ENTRIES < count || unfit(&entries[..count]) {
+        return Err(Refusal::Table);
     }
-    false
+    Ok(())
 }
 
-// The refusal of the first `count` as a table's entries; 0 where they are not refused.
-fn load_refusal(count: usize, entries: [Entry; MOST_ENTRIES]) -> u8
-    ensures { result ≡ first (load_rows count (take count entries)) }
+// Whether nothing stands there.
+fn clear(entries: &[Entry]) -> bool
+    ensures { result ≡ clear entries.now }
 {
-    if MOST_ENTRIES < count {
-        return refusals::TABLE;
-    }
-    if unfit(entries, count) {
-        return refusals::TABLE;
-    }
-    0
-}
-
-// Whether nothing stands from `from` on.
-fn clear(entries: [Entry; MOST_ENTRIES], from: usize) -> bool
-    ensures { result ≡ clear (drop from entries) }
-{
-    let mut i = from;
-    while i < MOST_ENTRIES {
-        if !same(entries[i], NO_ENTRY) {
-            return false;
-        }
-        i += 1;
-    }
-    true
-}
-
-// The first `count`, and nothing past them.
-fn cleared(entries: [Entry; MOST_ENTRIES], count: usize) -> [Entry; MOST_ENTRIES]
-    requires { count ≤ 32 }
-    ensures { result ≡ take count entries ++ replicate (32 - count) no_entry }
-{
-    let mut kept = entries;
-    let mut i = count;
-    while i < MOST_ENTRIES {
-        kept[i] = NO_ENTRY;
-        i += 1;
-    }
-    kept
+    entries.iter().all(|e| *e == NO_ENTRY)
 }
 
 // Whether loading can have made a table.
-fn is_table(t: Table) -> bool
-    ensures { result ≡ is_table t }
+#[tactic(auto, unfolding(crate::specs::Table::is_table))]
+fn is_table(t: &Table) -> bool
+    ensures { result ≡ is_table t.now }
 {
-    let count = t.count;
-    let entries = t.entries;
-    (load_refusal(count, entries) == 0) & clear(entries, count)
+    may_load(t.count, &t.entries).is_ok() && clear(&t.entries[t.count..])
 }
 
-// Loads the first `count` entries in place of the old table, or hands that back.
-pub fn load(old: Table, count: usize, entries: [Entry; MOST_ENTRIES]) -> Loaded
-    ensures { result ≡ loading old count entries }
+// Loads the first `count` entries in place of the old table, which stays where they are refused. `count` stands beside the array, as a
+// list may be longer than any table's, which is refused.
+pub fn load(table: &mut Table, count: usize, entries: [Entry; MOST_ENTRIES]) -> Result<(), Refusal>
+    ensures { loads result table.new ≡ loading table.old count entries }
 {
-    let refusal = load_refusal(count, entries);
-    if refusal != 0 {
-        return Loaded {
-            refusal,
-            table: old,
-        };
+    may_load(count, &entries)?;
+    *table = Table { count, entries };
+    table.entries[count..].fill(NO_ENTRY);
+    Ok(())
+}
+
+// How many destinations an APID has among the entries.
+fn count_destinations(apid: u16, entries: &[Entry]) -> usize
+    ensures { result ≡ length (destinations apid entries.now) }
+{
+    entries.iter().filter(|e| e.apid == apid).count()
+}
+
+// Writes the destinations that an APID has among the entries over the front of `out`, in their order.
+fn write_destinations(apid: u16, entries: &[Entry], out: &mut [u8])
+    requires { length (destinations apid entries.now) ≤ length out.old }
+    ensures { out.new ≡ destinations apid entries.now ++ drop (length (destinations apid entries.now)) out.old }
+{
+    let named = entries
+        .iter()
+        .filter(|e| e.apid == apid)
+        .map(|e| e.destination);
+    for (i, destination) in named.enumerate() {
+        out[i] = destination;
     }
-    let table = Table {
-        count,
-        entries: cleared(entries, count),
-    };
-    Loaded { refusal: 0, table }
 }
 
-// The destinations of an APID among the first `end` entries, in their order.
-fn destinations(apid: u16, entries: [Entry; MOST_ENTRIES], end: usize) -> Listed
-    requires { end ≤ 32 }
-    ensures { Found apid (take end entries) result.count result.list }
+// A refusal for which no header is at fault.
+fn refused(refusal: Refusal) -> Refused
+    ensures { result ≡ record { refusal = refusal; damage = None } }
 {
-    let mut list = [0; MOST_ENTRIES];
-    let mut count = 0;
-    let mut i = 0;
-    while i < end {
-        let e = entries[i];
-        if e.apid == apid {
-            list[count] = e.destination;
-            count += 1;
-        }
-        i += 1;
+    Refused {
+        refusal,
+        damage: None,
     }
-    Listed { count, list }
 }
 
-// Writes destinations over the front of `out`, if there is room for them.
-fn send(d: Listed, out: &mut [u8]) -> Routed
-    requires { d.count ≤ 32 }
-    ensures { routes result out.new ≡ handed (take d.count d.list) out.old }
+// Writes the destinations of an APID over the front of `out`, if there is room for them, and answers how many; none where it has none.
+#[tactic(auto, using(crate::proofs::Ways::not_sent, crate::proofs::Ways::sent_nowhere, crate::proofs::Ways::sent), unfolding(crate::specs::Route::routes))]
+fn send(apid: u16, entries: &[Entry], out: &mut [u8]) -> Result<Option<usize>, Refused>
+    ensures { routes result out.new ≡ handed (destinations apid entries.now) out.old }
 {
-    let count = d.count;
-    let list = d.list;
-    let refusal = octets::lay(out, 0, &list, 0, count);
-    if refusal != 0 {
-        return Routed::Refused {
-            refusal,
-            damage: damage::NONE,
-        };
+    let count = count_destinations(apid, entries);
+    if out.len() < count {
+        return Err(refused(Refusal::Room));
     }
     if count == 0 {
-        return Routed::NoPath;
+        return Ok(None);
     }
-    Routed::Path { count }
+    write_destinations(apid, entries, out);
+    Ok(Some(count))
 }
 
-// Routes a packet of `len` octets by what its header tells, its damage too, where limit and table are in order. No table has an
-// entry for idle packets.
-fn by_header(t: Table, header: Header, len: usize, out: &mut [u8]) -> Routed
-    requires { is_table t ≡ true }
-    ensures { (limit : ℕ) (p : List ℕ) → limit_in_range limit ≡ true → len ≡ length p → answer header ≡ reading limit p → routes result out.new ≡ routing limit t p out.old }
+// Routes a packet by what its header tells, its damage too, where limit and table are in order. No table has an entry for idle packets.
+#[tactic(auto, using(crate::proofs::Tables::few_entries))]
+fn by_header(
+    t: &Table,
+    header: Header,
+    packet: &[u8],
+    out: &mut [u8],
+) -> Result<Option<usize>, Refused>
+    requires { is_table t.now ≡ true }
+    ensures { (limit : ℕ) → answer (Ok header) ≡ reading limit packet.now → routes result out.new ≡ routing limit t.now packet.now out.old }
 {
     let Header::Whole {
         kind,
@@ -230,40 +171,33 @@ fn by_header(t: Table, header: Header, len: usize, out: &mut [u8]) -> Routed
         ..
     } = header
     else {
-        return Routed::Refused {
-            refusal: refusals::PACKET,
+        return Err(Refused {
+            refusal: Refusal::Packet,
             damage: packets::header_damage(header),
-        };
+        });
     };
-    if total != len {
-        return Routed::Refused {
-            refusal: refusals::PACKET,
-            damage: damage::NONE,
-        };
+    if total != packet.len() {
+        return Err(refused(Refusal::Packet));
     }
-    let Kind::Space = kind else {
-        return Routed::NoPath;
-    };
-    let entries = t.entries;
-    send(destinations(key, entries, t.count), out)
+    match kind {
+        Kind::Encapsulation => Ok(None),
+        Kind::Space => send(key, &t.entries[..t.count], out),
+    }
 }
 
-// Routes a packet: writes the destinations of its APID over the front of `out`, in the table's order.
-pub fn route(limit: usize, t: Table, packet: &[u8], out: &mut [u8]) -> Routed
+// Routes a packet: writes the destinations of its APID over the front of `out`, in the table's order, and answers how many; none where
+// the packet goes nowhere.
+pub fn route(
+    limit: usize,
+    t: Table,
+    packet: &[u8],
+    out: &mut [u8],
+) -> Result<Option<usize>, Refused>
     ensures { routes result out.new ≡ routing limit t packet.now out.old }
 {
-    let header = packets::read_header(limit, packet);
-    if let Header::Refused { refusal } = header {
-        return Routed::Refused {
-            refusal,
-            damage: damage::NONE,
-        };
+    let header = packets::read_header(limit, packet).map_err(refused)?;
+    if !is_table(&t) {
+        return Err(refused(Refusal::Record));
     }
-    if !is_table(t) {
-        return Routed::Refused {
-            refusal: refusals::RECORD,
-            damage: damage::NONE,
-        };
-    }
-    by_header(t, header, packet.len(), out)
+    by_header(&t, header, packet, out)
 }

@@ -14,13 +14,12 @@ use Rattle.repair.specs.Field.{times_root, power, product_from, product}
 use Rattle.repair.specs.Code.{Register, symbol, divided, remainder, four}
 use Rattle.repair.specs.Values.{generator_times, multiple, brought_down}
 use Rattle.repair.proofs.Laws.{product_lt}
+use Rattle.repair.proofs.Table.{digits}
 use Rattle.repair.proofs.Roots.{Small, small}
 
 -- an element times the generator, by its digits
 abbrev by_digits : ℕ → ℕ
-by_digits e =
-    bit_xor (bit_xor (bit_xor (e / 2 ^ 0 % 2 * generator_times 0) (e / 2 ^ 1 % 2 * generator_times 1)) (e / 2 ^ 2 % 2 * generator_times 2))
-    (e / 2 ^ 3 % 2 * generator_times 3)
+by_digits e = digits e (generator_times 0) (generator_times 1) (generator_times 2) (generator_times 3)
 
 multiple_test : below 16 (λ e. eqb (by_digits e) (multiple e)) ≡ true
 unfolding multiple generator_times four product product_from power times_root

@@ -9,9 +9,8 @@ use native.Mathlib.Omega.{arith}
 use borrow.Author.Tests.{eq-eqb, ne_eqb}
 use Rattle.octets.specs.Basics.{pick, number, number_from}
 use Rattle.words.specs.Fields.{field, placed, join}
-use Rattle.repair.specs.Code.{written, reading, distance, Near}
+use Rattle.repair.specs.Code.{Answer, written, reading, distance, Near}
 use Rattle.repair.specs.Header.{six_of, header_checks, covered, with_six, header_of, header_reading}
-use Rattle.repair.specs.declared.Repaired.{Repaired}
 use Rattle.repair.proofs.Roots.{checks_lt}
 use Rattle.repair.proofs.Nearest.{read_as_sent, refused_when_none}
 
@@ -116,31 +115,31 @@ module _ (head sent : ℕ) (h : head < 2 ^ 48) (g : sent < 2 ^ 48) (e : field he
 
 -- THE HEADER AS SENT
 pub header_as_sent : (sent head after : ℕ) → sent < 2 ^ 48 → head < 2 ^ 48 → field head 8 24 ≡ field sent 8 24
-    → distance 10 (covered head after) (covered sent (header_checks sent)) ≤ 2 → header_reading head after ≡ record { refusal = 0; head = sent }
+    → distance 10 (covered head after) (covered sent (header_checks sent)) ≤ 2 → header_reading head after ≡ record { refusal = 0; read = sent }
 unfolding header_reading header_of
 header_as_sent sent head after g h e close =
     ap (header_of head)
     (read_as_sent (six_of sent) (covered head after) (six_lt sent)
     (subst (λ (x : ℕ). distance 10 (covered head after) x ≤ 2) (covered_written sent) close))
-    ∙ ap (λ (x : ℕ). record { refusal = 0; head = x }) (ap (with_six head) (six_back (six_of sent)) ∙ put_back head sent h g e)
+    ∙ ap (λ (x : ℕ). record { refusal = 0; read = x }) (ap (with_six head) (six_back (six_of sent)) ∙ put_back head sent h g e)
 
 -- THE HEADER REFUSED: 14 where no rightly written word is so near
-pub header_refused : (head after : ℕ) → ((v : ℕ) → Near (covered head after) v → ⊥) → header_reading head after ≡ record { refusal = 14; head = 0 }
+pub header_refused : (head after : ℕ) → ((v : ℕ) → Near (covered head after) v → ⊥) → header_reading head after ≡ record { refusal = 14; read = 0 }
 unfolding header_reading header_of
 header_refused head after none = ap (header_of head) (refused_when_none (covered head after) none)
 
 -- ---- as the code has it
 
-pub refused_by : (head after : ℕ) (r : Repaired) → r ≡ reading (covered head after) → (r.refusal ≡ 0 → ⊥)
-    → record { refusal = r.refusal; head = 0 } ≡ header_reading head after
+pub refused_by : (head after : ℕ) (r : Answer) → r ≡ reading (covered head after) → (r.refusal ≡ 0 → ⊥)
+    → record { refusal = r.refusal; read = 0 } ≡ header_reading head after
 unfolding header_reading header_of
 refused_by head after r e ne =
-    sym (ap (λ (b : Bool). pick b (record { refusal = 0; head = with_six head (r.word / 16 ^ 4) }) (record { refusal = r.refusal; head = 0 })) (ne_eqb r.refusal 0 ne))
+    sym (ap (λ (b : Bool). pick b (record { refusal = 0; read = with_six head (r.read / 16 ^ 4) }) (record { refusal = r.refusal; read = 0 })) (ne_eqb r.refusal 0 ne))
     ∙ ap (header_of head) e
 
-pub read_by : (head after : ℕ) (r : Repaired) → r ≡ reading (covered head after) → r.refusal ≡ 0
-    → record { refusal = 0; head = with_six head (r.word / 16 ^ 4) } ≡ header_reading head after
+pub read_by : (head after : ℕ) (r : Answer) → r ≡ reading (covered head after) → r.refusal ≡ 0
+    → record { refusal = 0; read = with_six head (r.read / 16 ^ 4) } ≡ header_reading head after
 unfolding header_reading header_of
 read_by head after r e z =
-    sym (ap (λ (b : Bool). pick b (record { refusal = 0; head = with_six head (r.word / 16 ^ 4) }) (record { refusal = r.refusal; head = 0 })) (eq-eqb r.refusal 0 z))
+    sym (ap (λ (b : Bool). pick b (record { refusal = 0; read = with_six head (r.read / 16 ^ 4) }) (record { refusal = r.refusal; read = 0 })) (eq-eqb r.refusal 0 z))
     ∙ ap (header_of head) e

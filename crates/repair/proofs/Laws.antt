@@ -22,7 +22,7 @@ pub low : (a b : ℕ) → product (a % 16) (b % 16) ≡ product a b
 unfolding product
 low a b = ap₂ (product_from 4) (mod-eq_of_lt (small a)) (mod-eq_of_lt (small b))
 
-low_l : (a b : ℕ) → product (a % 16) b ≡ product a b
+pub low_l : (a b : ℕ) → product (a % 16) b ≡ product a b
 unfolding product
 low_l a b = ap (λ (x : ℕ). product_from 4 x (b % 16)) (mod-eq_of_lt (small a))
 

@@ -2,11 +2,11 @@
 -- Assumes nothing.
 use mathlib.Core.Path.{◌≡◌, refl, sym, ap, ap₂, ◌∙◌, subst⁻¹, fun_ext}
 use mathlib.Core.Bool.{Bool}
-use Prim.Native.Nat.{ℕ, zero, suc, ◌+◌, ◌-◌, ◌*◌, ◌^◌, ◌<◌, ◌≤◌}
+use Prim.Native.Nat.{ℕ, zero, suc, ◌+◌, ◌-◌, ◌*◌, ◌%◌, ◌^◌, ◌<◌, ◌≤◌}
 use native.Mathlib.Nat.{lt_of_lt_of_le}
 use native.Mathlib.Omega.{arith}
 use lib.Dec.{eqb}
-use lib.Pow.{shl_lt, pow_mono}
+use lib.Pow.{shl_lt, shl_exact, pow_mono}
 use lib.Bits.{bit_xor, xor_lt, xor_self, xor_zero_r, xor_comm}
 use borrow.Author.Tests.{eq-eqb, ne_eqb, eqb-true, eqb-false}
 use Rattle.octets.specs.Basics.{pick}
@@ -170,7 +170,7 @@ amount_by six seven p q j r hp hq exponent e =
     some (suc n) ne = omega arith
 
 -- a word with two symbols changed back is that which was sent, if only these were changed
-pub candidate_by : (w six seven p q a b : ℕ) → w < 16 ^ 10 → p < q → q < 10 → six ≡ value 10 6 (λ k. symbol k w) → seven ≡ value 10 7 (λ k. symbol k w)
+candidate_by : (w six seven p q a b : ℕ) → w < 16 ^ 10 → p < q → q < 10 → six ≡ value 10 6 (λ k. symbol k w) → seven ≡ value 10 7 (λ k. symbol k w)
     → Amount six seven p q a → Amount six seven q p b → Candidate w p q (changed w p a q b)
 candidate_by w six seven p q a b hw pq hq e6 e7 at_p at-q =
     record {
@@ -198,3 +198,12 @@ candidate_by w six seven p q a b hw pq hq e6 e7 at_p at-q =
         at-q.is y x hy hx ne' (zero_left ∙ xor_comm (product x (power (6 * p))) (product y (power (6 * q))))
         (one_left ∙ xor_comm (product x (power (7 * p))) (product y (power (7 * q)))) in
         ap₂ (λ (m n : ℕ). changed w p m q n) ea eb ∙ as_changed w v p q hw hv hp hq ne agree
+
+-- as the code shifts the changes to their places
+pub candidate_of : (w : ℕ) {six seven p q a b : ℕ} → w < 16 ^ 10 → p < q → q < 10 → six ≡ value 10 6 (λ k. symbol k w) → seven ≡ value 10 7 (λ k. symbol k w)
+    → Amount six seven p q a → Amount six seven q p b
+    → Candidate w p q (bit_xor w (bit_xor (a * 2 ^ (4 * p) % 2 ^ 64) (b * 2 ^ (4 * q) % 2 ^ 64)))
+candidate_of w {six} {seven} {p} {q} {a} {b} hw pq hq e6 e7 at_p at-q =
+    subst⁻¹ (Candidate w p q)
+    (ap₂ (λ (x y : ℕ). bit_xor w (bit_xor x y)) (shl_exact 4 (4 * p) 64 at_p.small (omega arith)) (shl_exact 4 (4 * q) 64 at-q.small (omega arith)))
+    (candidate_by w six seven p q a b hw pq hq e6 e7 at_p at-q)

@@ -10,8 +10,7 @@ use borrow.Author.Tests.{leb-true, leb-false, eqb-true, eqb-false}
 use Rattle.octets.proofs.Tests.{test}
 use Rattle.octets.proofs.Choices.{apart}
 use Rattle.repair.specs.Values.{value}
-use Rattle.repair.specs.Code.{symbol, written, Written, distance, reading_below, reading, Near, Reads, read_as, beyond}
-use Rattle.repair.specs.declared.Repaired.{Repaired}
+use Rattle.repair.specs.Code.{Answer, symbol, written, Written, distance, reading_below, reading, Near, Reads, read_as, beyond}
 use Rattle.octets.proofs.Sums.{xor_apart, crosswise}
 use Rattle.repair.proofs.Values.{value_xor, count, count_xor, light}
 use Rattle.repair.proofs.Words.{symbol_lt, symbol_xor, same_symbols, apart_count}
@@ -49,12 +48,12 @@ unique w u v a b =
     far_apart u v a.right b.right (omega (arith, triangle 10 w u v, a.close, b.close))
 
 -- a word is read in one way
-pub determined : (w : ℕ) (r s : Repaired) → Reads w r → Reads w s → r ≡ s
+pub determined : (w : ℕ) (r s : Answer) → Reads w r → Reads w s → r ≡ s
 determined w r s (read_as p a) (read_as q b) =
-    λ i. record { refusal = (p ∙ sym q) i; word = unique w r.word s.word a b i }
-determined w r s (read_as p a) (beyond q z none) = absurd (none r.word a)
-determined w r s (beyond p z none) (read_as q b) = absurd (none s.word b)
-determined w r s (beyond p y none) (beyond q z none') = λ i. record { refusal = (p ∙ sym q) i; word = (y ∙ sym z) i }
+    λ i. record { refusal = (p ∙ sym q) i; read = unique w r.read s.read a b i }
+determined w r s (read_as p a) (beyond q z none) = absurd (none r.read a)
+determined w r s (beyond p z none) (read_as q b) = absurd (none s.read b)
+determined w r s (beyond p y none) (beyond q z none') = λ i. record { refusal = (p ∙ sym q) i; read = (y ∙ sym z) i }
 
 -- ---- THE RULE OF READING
 
@@ -84,18 +83,18 @@ unfolding reading
 reading_rule w = below w (16 ^ 6) (omega arith) (λ m l k d. omega arith)
 
 -- and there is no other way to read it so
-pub only_reading : (w : ℕ) (r : Repaired) → Reads w r → r ≡ reading w
+pub only_reading : (w : ℕ) (r : Answer) → Reads w r → r ≡ reading w
 only_reading w r reads = determined w r (reading w) reads (reading_rule w)
 
 -- REPAIR: a word sent, with at most two of its ten symbols changed, is read as it was sent
-pub read_as_sent : (six w : ℕ) → six < 16 ^ 6 → distance 10 w (written six) ≤ 2 → reading w ≡ record { refusal = 0; word = written six }
+pub read_as_sent : (six w : ℕ) → six < 16 ^ 6 → distance 10 w (written six) ≤ 2 → reading w ≡ record { refusal = 0; read = written six }
 read_as_sent six w h close =
-    sym (only_reading w (record { refusal = 0; word = written six })
+    sym (only_reading w (record { refusal = 0; read = written six })
     (read_as refl (record { right = record { six = six; short = h; is = refl }; close = close })))
 
 -- THE REFUSAL: 14 exactly when there is no rightly written word so near
-pub refused_when_none : (w : ℕ) → ((v : ℕ) → Near w v → ⊥) → reading w ≡ record { refusal = 14; word = 0 }
-refused_when_none w none = sym (only_reading w (record { refusal = 14; word = 0 }) (beyond refl refl none))
+pub refused_when_none : (w : ℕ) → ((v : ℕ) → Near w v → ⊥) → reading w ≡ record { refusal = 14; read = 0 }
+refused_when_none w none = sym (only_reading w (record { refusal = 14; read = 0 }) (beyond refl refl none))
 
 pub none_when_refused : (w : ℕ) → (reading w).refusal ≡ 14 → (v : ℕ) → Near w v → ⊥
 none_when_refused w e v near = go (reading_rule w)

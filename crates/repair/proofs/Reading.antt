@@ -1,8 +1,8 @@
--- A word read by trying its pairs of places one after the other, pair 10 p + q for p and q.
+-- A word read by trying its pairs of places one after the other.
 -- Assumes nothing.
-use mathlib.Core.Path.{◌≡◌, refl, ap, ◌∙◌, subst, subst⁻¹}
+use mathlib.Core.Path.{◌≡◌, refl, sym, ap, ◌∙◌, subst, subst⁻¹}
 use mathlib.Core.Bool.{true, false}
-use Prim.Native.Nat.{ℕ, ◌+◌, ◌*◌, ◌/◌, ◌%◌, ◌^◌, ◌<◌, ◌≤◌}
+use Prim.Native.Nat.{ℕ, ◌+◌, ◌*◌, ◌/◌, ◌^◌, ◌<◌, ◌≤◌}
 use native.Mathlib.Omega.{arith}
 use lib.Dec.{eqb}
 use lib.Bits.{bit_xor}
@@ -11,7 +11,7 @@ use Rattle.repair.specs.Code.{symbol, checks, written, Written, reading, Near, r
 use Rattle.repair.specs.Values.{Candidate}
 use Rattle.repair.proofs.Roots.{checks_lt}
 use Rattle.repair.proofs.Words.{distance_none, apart_count, two_places}
-use Rattle.repair.proofs.Nearest.{only_reading}
+use Rattle.repair.proofs.Nearest.{only_reading, refused_when_none}
 
 -- ---- rightly written words, as they are tested
 
@@ -26,33 +26,36 @@ again v w =
     e ∙ ap written s
 
 -- a word that is rightly written is read as itself
-pub read_itself : (w : ℕ) → w < 16 ^ 10 → eqb w (written (w / 16 ^ 4)) ≡ true → record { refusal = 0; word = w } ≡ reading w
+pub read_itself : (w : ℕ) → w < 16 ^ 10 → eqb w (written (w / 16 ^ 4)) ≡ true → record { refusal = 0; read = w } ≡ reading w
 read_itself w short t =
-    only_reading w (record { refusal = 0; word = w }) (read_as refl (record { right = tested w short t; close = omega (arith, distance_none 10 w) }))
+    only_reading w (record { refusal = 0; read = w }) (read_as refl (record { right = tested w short t; close = omega (arith, distance_none 10 w) }))
 
 -- ---- the pairs
 
 abbrev Agree : ℕ → ℕ → ℕ → ℕ → Type 0
 Agree w v p q = (k : ℕ) → k < 10 → (k ≡ p → ⊥) → (k ≡ q → ⊥) → symbol k (bit_xor w v) ≡ 0
 
--- no rightly written word differs from w at the places of this pair alone
-abbrev pub Missed : ℕ → ℕ → Type 0
-Missed w pair = (v : ℕ) → Written v → pair / 10 < pair % 10 → Agree w v (pair / 10) (pair % 10) → ⊥
+-- no rightly written word differs from w at the places p and q alone
+abbrev pub Missed : ℕ → ℕ → ℕ → Type 0
+Missed w p q = (v : ℕ) → Written v → Agree w v p q → ⊥
 
-pub missed : (w pair r : ℕ) → Candidate w (pair / 10) (pair % 10) r → eqb r (written (r / 16 ^ 4)) ≡ false → Missed w pair
-missed w pair r candidate t v right l agree =
+pub missed : (w p q r : ℕ) → Candidate w p q r → eqb r (written (r / 16 ^ 4)) ≡ false → Missed w p q
+missed w p q r candidate t v right agree =
     let e : r ≡ v = candidate.is v right agree in
     eqb-false r (written (r / 16 ^ 4)) t (subst⁻¹ (λ (x : ℕ). x ≡ written (x / 16 ^ 4)) e (again v right))
 
-pub none_near : (w : ℕ) → ((pair : ℕ) → pair < 100 → Missed w pair) → (v : ℕ) → Near w v → ⊥
-none_near w all v near = go (two_places (λ k. symbol k (bit_xor w v)) (subst (λ (d : ℕ). d ≤ 2) (apart_count 10 w v) near.close))
-  where
-    go : (p : ℕ) × (q : ℕ) × (p < q) × (q < 10) × Agree w v p q → ⊥
-    go (p, q, pq, hq, agree) =
-        let ep : p ≡ (10 * p + q) / 10 = omega arith in
-        let eq : q ≡ (10 * p + q) % 10 = omega arith in
-        all (10 * p + q) (omega arith) v near.right (omega arith)
-        (λ k h a b. agree k h (λ e. a (e ∙ ep)) (λ e. b (e ∙ eq)))
+-- a word is read as the candidate that is rightly written
+pub read_found : (w p q v : ℕ) → Candidate w p q v → eqb v (written (v / 16 ^ 4)) ≡ true → record { refusal = 0; read = v } ≡ reading w
+read_found w p q v candidate t =
+    only_reading w (record { refusal = 0; read = v })
+    (read_as refl (record { right = tested v candidate.short t; close = candidate.close }))
 
-pub found : (w pair v : ℕ) → Candidate w (pair / 10) (pair % 10) v → eqb v (written (v / 16 ^ 4)) ≡ true → Near w v
-found w pair v candidate t = record { right = tested v candidate.short t; close = candidate.close }
+-- and is beyond repair where no pair of places has one
+pub none_found : (w : ℕ) → ((p : ℕ) → p < 10 → (q : ℕ) → q < 10 → p < q → Missed w p q) → record { refusal = 14; read = 0 } ≡ reading w
+none_found w all = sym (refused_when_none w none)
+  where
+    none : (v : ℕ) → Near w v → ⊥
+    none v near = go (two_places (λ k. symbol k (bit_xor w v)) (subst (λ (d : ℕ). d ≤ 2) (apart_count 10 w v) near.close))
+      where
+        go : (p : ℕ) × (q : ℕ) × (p < q) × (q < 10) × Agree w v p q → ⊥
+        go (p, q, pq, hq, agree) = all p (omega arith) q hq pq v near.right agree

@@ -15,11 +15,10 @@ use Rattle.octets.proofs.Numbers.{number_octets, octets_again}
 use Rattle.octets.proofs.Written.{length-octets, laid_within, length_over, over_over}
 use Rattle.words.specs.Fields.{field, placed}
 use Rattle.words.proofs.Fields.{placed_read, placed_below, placed_above, placed_lt, placed_within}
-use Rattle.repair.specs.Code.{written, distance, reading, Near, Reads, read_as, beyond}
+use Rattle.repair.specs.Code.{Answer, written, distance, reading, Near, Reads, read_as, beyond}
 use Rattle.repair.specs.Header.{six_of, header_checks, covered, with_six, header_reading, own_octets, own_written, checked, own_reading, own_header}
 use Rattle.repair.specs.Changes.{ten_symbols, most_changed, Legible}
 use Rattle.repair.specs.Statements.{HeaderRead}
-use Rattle.repair.specs.declared.Header.{Header}
 use Rattle.repair.proofs.Roots.{checks_lt}
 use Rattle.repair.proofs.Nearest.{right_lt, reading_rule}
 use Rattle.repair.proofs.Reading.{again}
@@ -91,7 +90,7 @@ all_sent on head behind came legible =
 
 -- A HEADER AS SENT
 pub as_sent : (on : Bool) (head : ℕ) (behind came : List ℕ) → head < 2 ^ 48 → 8 ≤ length came → Legible on (own_written on head ++ behind) came
-    → own_header on came ≡ record { refusal = 0; head = head }
+    → own_header on came ≡ record { refusal = 0; read = head }
 unfolding own_header own_reading most_changed
 as_sent true head behind came short long legible =
     let all : AllOctets (own_written true head ++ behind) = all_sent true head behind came legible in
@@ -100,7 +99,7 @@ as_sent true head behind came short long legible =
     (subst (λ (n : ℕ). distance 10 (covered (head_in came) (after_in came)) n ≤ 2)
     (ap₂ covered (head_sent true head behind short) (after_sent head behind)) (close true _ came all long legible))
 as_sent false head behind came short long legible =
-    ap (λ (n : ℕ). record { refusal = 0; head = n })
+    ap (λ (n : ℕ). record { refusal = 0; read = n })
     (same_head _ came (all_sent false head behind came legible) long legible ∙ head_sent false head behind short)
 
 -- ---- a header that is repaired
@@ -176,15 +175,15 @@ module _ (came : List ℕ) (all : AllOctets came) (long : 8 ≤ length came) (he
 
 -- ---- ONE THAT IS NOT REFUSED WAS SENT SO
 
-abbrev Sent : Bool → List ℕ → Header → Type 0
-Sent on came read = (read.head < 2 ^ 48) × Legible on (own_written on read.head ++ drop (own_octets on) came) came
+abbrev Sent : Bool → List ℕ → Answer → Type 0
+Sent on came answer = (answer.read < 2 ^ 48) × Legible on (own_written on answer.read ++ drop (own_octets on) came) came
 
 -- by the word that its ten symbols are read as
 module _ (came : List ℕ) (all : AllOctets came) (long : 8 ≤ length came) where
   abbrev word : ℕ
   word = covered (head_in came) (after_in came)
 
-  by_word : (v : ℕ) → Near word v → Sent true came (record { refusal = 0; head = with_six (head_in came) (v / 16 ^ 4) })
+  by_word : (v : ℕ) → Near word v → Sent true came (record { refusal = 0; read = with_six (head_in came) (v / 16 ^ 4) })
   by_word v near =
       let six : ℕ = v / 16 ^ 4 in
       let small : six < 2 ^ 24 = six_small v near in
@@ -201,10 +200,10 @@ module _ (came : List ℕ) (all : AllOctets came) (long : 8 ≤ length came) whe
 
   by_reading : Reads word (reading word) → (header_reading (head_in came) (after_in came)).refusal ≡ 0 → Sent true came (header_reading (head_in came) (after_in came))
   by_reading (read_as none near) e =
-      subst (Sent true came) (read_by (head_in came) (after_in came) (reading word) refl none) (by_word (reading word).word near)
+      subst (Sent true came) (read_by (head_in came) (after_in came) (reading word) refl none) (by_word (reading word).read near)
   by_reading (beyond refused none-word none) e =
       let says : (header_reading (head_in came) (after_in came)).refusal ≡ 14 =
-      ap (λ (r : Header). r.refusal) (sym (refused_by (head_in came) (after_in came) (reading word) refl (λ zero. apart (omega arith)))) ∙ refused in
+      ap (λ (r : Answer). r.refusal) (sym (refused_by (head_in came) (after_in came) (reading word) refl (λ zero. apart (omega arith)))) ∙ refused in
       apart (omega arith)
 
 pub sent_so : (on : Bool) (came : List ℕ) → AllOctets came → 8 ≤ length came → (own_header on came).refusal ≡ 0 → Sent on came (own_header on came)
@@ -218,14 +217,14 @@ sent_so false came all long e =
 -- ---- AND ANY OTHER IS REFUSED
 
 refused_or : (head after : ℕ) → Reads (covered head after) (reading (covered head after))
-    → ((header_reading head after).refusal ≡ 0) ⊎ (header_reading head after ≡ record { refusal = 14; head = 0 })
+    → ((header_reading head after).refusal ≡ 0) ⊎ (header_reading head after ≡ record { refusal = 14; read = 0 })
 refused_or head after (read_as none near) =
-    inl (ap (λ (r : Header). r.refusal) (sym (read_by head after (reading (covered head after)) refl none)))
+    inl (ap (λ (r : Answer). r.refusal) (sym (read_by head after (reading (covered head after)) refl none)))
 refused_or head after (beyond refused none-word none) =
     inr (sym (refused_by head after (reading (covered head after)) refl (λ zero. apart (omega arith)))
-    ∙ ap (λ (n : ℕ). record { refusal = n; head = 0 }) refused)
+    ∙ ap (λ (n : ℕ). record { refusal = n; read = 0 }) refused)
 
-pub refused : (on : Bool) (came : List ℕ) → ((own_header on came).refusal ≡ 0) ⊎ (own_header on came ≡ record { refusal = 14; head = 0 })
+pub refused : (on : Bool) (came : List ℕ) → ((own_header on came).refusal ≡ 0) ⊎ (own_header on came ≡ record { refusal = 14; read = 0 })
 unfolding own_header own_reading
 refused true came = refused_or (head_in came) (after_in came) (reading_rule (covered (head_in came) (after_in came)))
 refused false came = inl refl

@@ -1,20 +1,22 @@
 -- The table of the root's powers: its rule, computed once over the fifteen entries, and what it is good for.
 -- Assumes nothing.
 use mathlib.Core.Path.{◌≡◌, refl, sym, ap, ◌∙◌, subst}
-use mathlib.Core.Bool.{Bool, true, false}
+use mathlib.Core.Bool.{Bool, true}
 use mathlib.Core.List.{List, [], ◌∷◌}
-use Prim.Native.Nat.{ℕ, zero, suc, ◌+◌, ◌-◌, ◌*◌, ◌/◌, ◌%◌, ◌^◌, ◌<◌}
-use native.Mathlib.Nat.{add-zero}
+use Prim.Native.Nat.{ℕ, suc, ◌+◌, ◌-◌, ◌*◌, ◌/◌, ◌%◌, ◌^◌, ◌<◌}
 use native.Mathlib.Omega.{arith}
-use lib.ListN.{get_or}
-use lib.Dec.{eqb}
+use lib.ListN.{length, get_or}
+use lib.Dec.{eqb, ltb}
+use Rattle.std.specs.Option.{unwrap_or}
+use Rattle.std.specs.List.{position, position_or_len}
 use lib.Bits.{bit_xor}
-use borrow.Author.Tests.{eqb-true, ne_eqb}
+use borrow.Author.Tests.{eqb-true, ltb-true, ne_eqb}
 use Rattle.octets.specs.Basics.{or}
-use Rattle.octets.proofs.Choices.{apart}
 use Rattle.repair.specs.Field.{times_root, power, product_from, product}
+use Rattle.repair.specs.Values.{Exponent}
+use Rattle.octets.proofs.Tests.{test}
 use Rattle.octets.proofs.Every.{below, at, at2}
-use Rattle.repair.proofs.Laws.{product_assoc, product_one, product_comm, power-add, power_lt, round}
+use Rattle.repair.proofs.Laws.{low_l, product_assoc, product_one, product_comm, power-add, power_lt, round}
 
 abbrev pub powers : List ℕ
 powers = 1 ∷ 2 ∷ 4 ∷ 8 ∷ 3 ∷ 6 ∷ 12 ∷ 11 ∷ 5 ∷ 10 ∷ 7 ∷ 14 ∷ 15 ∷ 13 ∷ 9 ∷ []
@@ -27,51 +29,58 @@ table_test = refl
 pub table : (n : ℕ) → n < 15 → get_or powers n 0 ≡ power n
 table n h = eqb-true _ _ (at 15 (λ n. eqb (get_or powers n 0) (power n)) table_test n h)
 
--- every element but 0 is in it
-some : ℕ → (ℕ → Bool) → Bool
-some zero f = false
-some (suc n) f = or (f n) (some n f)
+-- the place of an element in it; 0 where it has none
+abbrev pub place : ℕ → ℕ
+place e = unwrap_or (position (λ x. eqb x e) powers) 0
 
-none : (n : ℕ) (f : ℕ → Bool) → ((k : ℕ) → k < n → f k ≡ false) → some n f ≡ true → ⊥
-unfolding some
-none zero f h t = apart (cc)
-none (suc n) f h t = none n f (λ k l. h k (omega arith)) (subst (λ (b : Bool). or b (some n f) ≡ true) (h n (omega arith)) t)
+first_lt : (f : ℕ → Bool) (xs : List ℕ) → 0 < length xs → unwrap_or (position f xs) 0 < length xs
+first_lt f xs some = test (ltb (position_or_len f xs) (length xs)) (λ t. rw t (ltb-true _ _ t)) (λ t. rw t some)
 
-all_test : below 16 (λ e. or (eqb e 0) (some 15 (λ k. eqb (get_or powers k 0) e))) ≡ true
-unfolding some
-all_test = refl
+place_test : below 16 (λ e. or (eqb e 0) (eqb (power (place e)) e)) ≡ true
+unfolding power times_root
+place_test = refl
 
-pub in_table : (e : ℕ) → 0 < e → e < 16 → ((k : ℕ) → k < 15 → get_or powers k 0 ≡ e → ⊥) → ⊥
-in_table e pos short absent =
-    none 15 (λ k. eqb (get_or powers k 0) e) (λ k l. ne_eqb (get_or powers k 0) e (absent k l))
-    (subst (λ (b : Bool). or b (some 15 (λ k. eqb (get_or powers k 0) e)) ≡ true) (ne_eqb e 0 (λ z. omega arith))
-    (at 16 (λ e. or (eqb e 0) (some 15 (λ k. eqb (get_or powers k 0) e))) all_test e short))
+pub place_is : (e : ℕ) → Exponent e (place e)
+place_is e = record {
+  short = first_lt (λ x. eqb x e) powers (omega arith);
+  is =
+      λ pos small.
+      eqb-true _ _
+      (subst (λ (b : Bool). or b (eqb (power (place e)) e) ≡ true) (ne_eqb e 0 (λ z. omega arith))
+      (at 16 (λ e. or (eqb e 0) (eqb (power (place e)) e)) place_test e small));
+}
 
 -- ---- products with a power, and quotients
 
+-- the digits of an element, each times what it stands for
+abbrev pub digits : ℕ → ℕ → ℕ → ℕ → ℕ → ℕ
+digits e a b c d = bit_xor (bit_xor (bit_xor (e / 2 ^ 0 % 2 * a) (e / 2 ^ 1 % 2 * b)) (e / 2 ^ 2 % 2 * c)) (e / 2 ^ 3 % 2 * d)
+
 -- a product by the digits of a factor
-digits_test : below 256 (λ e. below 16 (λ a. eqb
-    (bit_xor (bit_xor (bit_xor (e / 2 ^ 0 % 2 * a) (e / 2 ^ 1 % 2 * times_root a)) (e / 2 ^ 2 % 2 * times_root (times_root a)))
-    (e / 2 ^ 3 % 2 * times_root (times_root (times_root a))))
-    (product e a))) ≡ true
+abbrev with_digits : ℕ → ℕ → ℕ
+with_digits e a = digits e a (times_root a) (times_root (times_root a)) (times_root (times_root (times_root a)))
+
+digits_test : below 16 (λ e. below 16 (λ a. eqb (with_digits e a) (product e a))) ≡ true
 unfolding product product_from times_root
 digits_test = refl
 
--- by these digits times powers
-pub by_digits : (e n : ℕ) → e < 256
-    → bit_xor (bit_xor (bit_xor (e / 2 ^ 0 % 2 * power (n + 0)) (e / 2 ^ 1 % 2 * power (n + 1))) (e / 2 ^ 2 % 2 * power (n + 2))) (e / 2 ^ 3 % 2 * power (n + 3))
-    ≡ product e (power n)
+low_digits : (e a b c d : ℕ) → digits (e % 16) a b c d ≡ digits e a b c d
+low_digits e a b c d =
+    let zero : e % 16 / 2 ^ 0 % 2 ≡ e / 2 ^ 0 % 2 = omega arith in
+    let one : e % 16 / 2 ^ 1 % 2 ≡ e / 2 ^ 1 % 2 = omega arith in
+    let two : e % 16 / 2 ^ 2 % 2 ≡ e / 2 ^ 2 % 2 = omega arith in
+    let three : e % 16 / 2 ^ 3 % 2 ≡ e / 2 ^ 3 % 2 = omega arith in
+    rw (zero, one, two, three)
+
+-- each times a power
+pub by_digits : (e n : ℕ) → digits e (power n) (power (n + 1)) (power (n + 2)) (power (n + 3)) ≡ product e (power n)
 unfolding power
-by_digits e n small =
+by_digits e n =
     let one : n + 1 ≡ suc n = omega arith in
     let two : n + 2 ≡ suc (suc n) = omega arith in
     let three : n + 3 ≡ suc (suc (suc n)) = omega arith in
-    rw (add-zero n, one, two, three)
-    (eqb-true _ _
-    (at2 256 16 (λ e a. eqb
-    (bit_xor (bit_xor (bit_xor (e / 2 ^ 0 % 2 * a) (e / 2 ^ 1 % 2 * times_root a)) (e / 2 ^ 2 % 2 * times_root (times_root a)))
-    (e / 2 ^ 3 % 2 * times_root (times_root (times_root a))))
-    (product e a)) digits_test e (power n) small (power_lt n)))
+    rw (one, two, three)
+    (sym (low_digits e _ _ _ _) ∙ eqb-true _ _ (at2 16 16 (λ e a. eqb (with_digits e a) (product e a)) digits_test (e % 16) (power n) (omega arith) (power_lt n)) ∙ low_l e (power n))
 
 -- what times another gives an element: the power that leads round to it
 pub quotient : (a b j : ℕ) → a < 16 → j < 15 → power j ≡ b → product (product a (power (15 - j))) b ≡ a

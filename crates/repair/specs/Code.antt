@@ -1,11 +1,10 @@
 -- The (10,6) code: words of ten symbols as numbers of ten hexadecimal digits, the first symbol in the highest; symbol k, counted from
 -- the last, stands for the coefficient of x^k.
-use Rattle.std.specs.Prelude.{ℕ, zero, suc, ◌+◌, ◌*◌, ◌/◌, ◌%◌, ◌^◌, ◌≤◌, ◌<◌, ◌≡◌, leb, eqb}
+use Rattle.std.specs.Prelude.{ℕ, zero, suc, ◌+◌, ◌*◌, ◌/◌, ◌%◌, ◌^◌, ◌≤◌, ◌<◌, ◌≡◌, leb, eqb, Option, Some, None}
 use Rattle.std.specs.Int.Bits.{bit_xor}
 use Rattle.octets.specs.Basics.{pick}
 use Rattle.words.specs.Fields.{field}
 use Rattle.repair.specs.Field.{power, product}
-use Rattle.repair.specs.declared.Repaired.{Repaired}
 
 -- symbol k of a word, counted from the last
 unfoldable pub symbol : ℕ → ℕ → ℕ
@@ -57,12 +56,22 @@ unfoldable pub distance : ℕ → ℕ → ℕ → ℕ
 distance zero u v = 0
 distance (suc n) u v = distance n u v + pick (eqb (symbol n u) (symbol n v)) 0 1
 
--- how a word is read: as the rightly written one, of all six symbols below n, that differs from it in two symbols or fewer; else refused, 14
-unfoldable pub reading_below : ℕ → ℕ → Repaired
-reading_below zero w = record { refusal = 14; word = 0 }
-reading_below (suc n) w = pick (leb (distance 10 w (written n)) 2) (record { refusal = 0; word = written n }) (reading_below n w)
+-- how a word or a header is read: its refusal, or 0; and the number that it is read as, which is 0 where it is refused
+pub record Answer : Type 0 where
+  pub refusal : ℕ
+  pub read : ℕ
 
-unfoldable pub reading : ℕ → Repaired
+-- what the code answers, as refusal and number: none is the refusal 14
+abbrev pub answer_of : Option ℕ → Answer
+answer_of None = record { refusal = 14; read = 0 }
+answer_of (Some n) = record { refusal = 0; read = n }
+
+-- how a word is read: as the rightly written one, of all six symbols below n, that differs from it in two symbols or fewer; else refused, 14
+unfoldable pub reading_below : ℕ → ℕ → Answer
+reading_below zero w = record { refusal = 14; read = 0 }
+reading_below (suc n) w = pick (leb (distance 10 w (written n)) 2) (record { refusal = 0; read = written n }) (reading_below n w)
+
+unfoldable pub reading : ℕ → Answer
 reading w = reading_below (16 ^ 6) w
 
 -- a rightly written word that differs from w in two symbols or fewer
@@ -71,6 +80,6 @@ pub record Near (w v : ℕ) : Type 0 where
   pub close : distance 10 w v ≤ 2
 
 -- the same as a rule: refused exactly when there is no such word, else read as one (`reading_rule`, `determined` of proofs/Nearest.antt)
-pub data Reads (w : ℕ) : Repaired → Type 0 where
-  read_as : {r : Repaired} → r.refusal ≡ 0 → Near w r.word → Reads w r
-  beyond : {r : Repaired} → r.refusal ≡ 14 → r.word ≡ 0 → ((v : ℕ) → Near w v → ⊥) → Reads w r
+pub data Reads (w : ℕ) : Answer → Type 0 where
+  read_as : {r : Answer} → r.refusal ≡ 0 → Near w r.read → Reads w r
+  beyond : {r : Answer} → r.refusal ≡ 14 → r.read ≡ 0 → ((v : ℕ) → Near w v → ⊥) → Reads w r

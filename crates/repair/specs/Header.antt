@@ -3,9 +3,7 @@
 use Rattle.std.specs.Prelude.{ℕ, ◌+◌, ◌*◌, ◌/◌, ◌^◌, List, [], ◌++◌, Bool, eqb, take, drop}
 use Rattle.octets.specs.Basics.{pick, number, octets, laid}
 use Rattle.words.specs.Fields.{field, placed}
-use Rattle.repair.specs.Code.{checks, reading}
-use Rattle.repair.specs.declared.Repaired.{Repaired}
-use Rattle.repair.specs.declared.Header.{Header}
+use Rattle.repair.specs.Code.{checks, Answer, reading}
 
 -- octets 0, 1 and 5 as six symbols, high half first
 unfoldable pub six_of : ℕ → ℕ
@@ -24,12 +22,12 @@ unfoldable pub with_six : ℕ → ℕ → ℕ
 with_six head six = placed (placed head 0 8 six) 32 16 (six / 2 ^ 8)
 
 -- what is made of a header by the word that it is read as
-unfoldable pub header_of : ℕ → Repaired → Header
+unfoldable pub header_of : ℕ → Answer → Answer
 header_of head r =
-    pick (eqb r.refusal 0) (record { refusal = 0; head = with_six head (r.word / 16 ^ 4) }) (record { refusal = r.refusal; head = 0 })
+    pick (eqb r.refusal 0) (record { refusal = 0; read = with_six head (r.read / 16 ^ 4) }) (record { refusal = r.refusal; read = 0 })
 
 -- how a header is read, with the number of the two octets after it
-unfoldable pub header_reading : ℕ → ℕ → Header
+unfoldable pub header_reading : ℕ → ℕ → Answer
 header_reading head after = header_of head (reading (covered head after))
 
 -- ---- as a setting: all of it where it is on, and nothing where it is off
@@ -47,9 +45,9 @@ unfoldable pub checked : Bool → List ℕ → ℕ → List ℕ
 checked on buffer head = pick on (laid buffer 6 (octets 2 (header_checks head))) buffer
 
 -- how a header is read: repaired or refused, or as it stands
-unfoldable pub own_reading : Bool → ℕ → ℕ → Header
-own_reading on head after = pick on (header_reading head after) (record { refusal = 0; head = head })
+unfoldable pub own_reading : Bool → ℕ → ℕ → Answer
+own_reading on head after = pick on (header_reading head after) (record { refusal = 0; read = head })
 
 -- how that of a frame is
-unfoldable pub own_header : Bool → List ℕ → Header
+unfoldable pub own_header : Bool → List ℕ → Answer
 own_header on f = own_reading on (number (take 6 f)) (number (take 2 (drop 6 f)))

@@ -32,18 +32,18 @@ abbrev pub AbsentRefused : Type 0
 AbsentRefused =
     (w i x q y : ℕ) → w < 16 ^ 10 → 10 ≤ i → i < 15 → 0 < x → x < 16 → q < 15 → y < 16 → (i ≡ q → ⊥)
     → ((j : ℕ) → j < 4 → value 10 (6 + j) (λ k. symbol k w) ≡ bit_xor (product x (power ((6 + j) * i))) (product y (power ((6 + j) * q))))
-    → reading w ≡ record { refusal = 14; word = 0 }
+    → reading w ≡ record { refusal = 14; read = 0 }
 
 -- THE HEADER, with error control and without it
 pub record HeaderRead (on : Bool) : Type 0 where
   -- a header that was written, and came with no more symbols changed, is read as it was sent
   pub as_sent : (head : ℕ) (behind came : List ℕ) → head < 2 ^ 48 → 8 ≤ length came → Legible on (own_written on head ++ behind) came
-      → own_header on came ≡ record { refusal = 0; head = head }
+      → own_header on came ≡ record { refusal = 0; read = head }
   -- one that is not refused is read as one that was written and came so
   pub sent_so : (came : List ℕ) → AllOctets came → 8 ≤ length came → (own_header on came).refusal ≡ 0
-      → ((own_header on came).head < 2 ^ 48) × Legible on (own_written on (own_header on came).head ++ drop (own_octets on) came) came
+      → ((own_header on came).read < 2 ^ 48) × Legible on (own_written on (own_header on came).read ++ drop (own_octets on) came) came
   -- and any other is refused by 14
-  pub refused : (came : List ℕ) → ((own_header on came).refusal ≡ 0) ⊎ (own_header on came ≡ record { refusal = 14; head = 0 })
+  pub refused : (came : List ℕ) → ((own_header on came).refusal ≡ 0) ⊎ (own_header on came ≡ record { refusal = 14; read = 0 })
 
 pub record Repairs : Type 0 where
   pub the_code : TheCode

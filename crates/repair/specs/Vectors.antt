@@ -1,15 +1,15 @@
 -- Headers with their check symbols, and headers with changed symbols: as they are read, or refused.
 use Rattle.std.specs.Prelude.{ℕ, ◌≡◌, [], ◌∷◌, map}
 use Rattle.repair.specs.Field.{power}
+use Rattle.repair.specs.Code.{Answer}
 use Rattle.repair.specs.Header.{header_checks, header_reading}
-use Rattle.repair.specs.declared.Header.{Header}
 
 -- a header that is read, and the refusal
-abbrev pub says : ℕ → Header
-says head = record { refusal = 0; head = head }
+abbrev pub says : ℕ → Answer
+says head = record { refusal = 0; read = head }
 
-abbrev pub beyond_repair : Header
-beyond_repair = record { refusal = 14; head = 0 }
+abbrev pub beyond_repair : Answer
+beyond_repair = record { refusal = 14; read = 0 }
 
 pub record Vectors : Type 0 where
   -- the powers of the root, and the first of them again

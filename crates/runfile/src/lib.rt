@@ -6,7 +6,7 @@ ghost use Rattle.frames.specs.Frame.{frame_length};
 ghost use Rattle.runfile.specs.RunFile.{setup_of, plain, fits};
 ghost use Rattle.runfile.specs.Steps.{next_record, bad, reachable, body_length, taken, closed};
 
-use frames::{Edition, Link, MOST_FRAMES, Settings};
+use frames::{Channel, Edition, Link, MOST_FRAMES, Settings};
 
 // How far the reading of a run file is, between two records.
 #[derive(Clone, Copy)]
@@ -21,7 +21,7 @@ pub enum Progress {
     Bad { record: u64 },
 }
 
-// The kinds of records.
+// The kinds of records, as the octets that they begin with.
 pub const SETUP: u8 = 1;
 
 pub const FRAME: u8 = 2;
@@ -35,6 +35,7 @@ const SETUP_LENGTH: usize = 7;
 const MOST_LIMIT: usize = 4096;
 
 // The settings that the body of a setup gives.
+#[tactic(auto, unfolding(crate::specs::RunFile::setup_of))]
 fn setup_of(body: &[u8]) -> Settings
     ensures { result ≡ setup_of body.now }
 {
@@ -46,42 +47,42 @@ fn setup_of(body: &[u8]) -> Settings
     };
     Settings {
         link,
-        zone: octets::number2(body, 2) as usize,
-        limit: octets::number3(body, 4) as usize,
+        zone: octets::number::<2>(body, 2) as usize,
+        limit: octets::number::<3>(body, 4) as usize,
         fill: 0,
     }
 }
 
 // Whether a link has nothing of which a setup cannot speak.
+#[tactic(auto, unfolding(crate::specs::RunFile::plain))]
 fn is_plain(l: Link) -> bool
     ensures { result ≡ plain l }
 {
-    let edition = l.edition;
-    match edition {
-        Edition::Former => !l.trailed,
-        Edition::CycleUnused => false,
-        Edition::CycleUsed => false,
-    }
+    matches!(l.edition, Edition::Former) & !l.trailed
 }
 
+// Whether a setup can give these settings, the fill octet apart.
+#[tactic(auto, unfolding(crate::specs::RunFile::fits))]
 fn fits(s: Settings) -> bool
     ensures { result ≡ fits s }
 {
-    frames::in_range(s) & ((s.limit <= MOST_LIMIT) & is_plain(s.link))
+    s.in_range() & ((s.limit <= MOST_LIMIT) & is_plain(s.link))
 }
 
 // The number of the record that comes next, or of the one that was bad.
+#[tactic(auto, unfolding(crate::specs::Steps::next_record))]
 fn next_record(p: Progress) -> u64
     ensures { result ≡ next_record p }
 {
     match p {
         Progress::Start => 0,
-        Progress::Running { frames: count, .. } => count as u64 + 1,
-        Progress::Ended { frames: count } => count as u64 + 2,
+        Progress::Running { frames, .. } => frames as u64 + 1,
+        Progress::Ended { frames } => frames as u64 + 2,
         Progress::Bad { record } => record,
     }
 }
 
+// The record that comes next is bad.
 fn bad(p: Progress) -> Progress
     ensures { result ≡ bad p }
 {
@@ -91,20 +92,22 @@ fn bad(p: Progress) -> Progress
 }
 
 // Whether a file can lead to this progress.
+#[tactic(auto, unfolding(crate::specs::Steps::reachable))]
 fn reachable(p: Progress) -> bool
     ensures { result ≡ reachable p }
 {
     match p {
         Progress::Start => true,
-        Progress::Running {
-            settings,
-            frames: count,
-        } => fits(settings) & ((settings.fill == 0) & (count <= MOST_FRAMES)),
-        Progress::Ended { frames: count } => count <= MOST_FRAMES,
+        Progress::Running { settings, frames } => {
+            fits(settings) & ((settings.fill == 0) & (frames <= MOST_FRAMES))
+        }
+        Progress::Ended { frames } => frames <= MOST_FRAMES,
         Progress::Bad { record } => record <= MOST_FRAMES as u64 + 2,
     }
 }
 
+// The octets of a frame, which has no trailer.
+#[tactic(auto, using(crate::proofs::Bounds::frame_plain, crate::proofs::Bounds::fitting))]
 fn frame_length(s: Settings) -> usize
     requires { fits s ≡ true }
     ensures { result ≡ frame_length s }
@@ -113,34 +116,29 @@ fn frame_length(s: Settings) -> usize
 }
 
 // How many octets of body the next record has, by its kind; 0 where it is bad.
+#[tactic(auto, unfolding(crate::specs::Steps::body_length))]
 pub fn body_length(p: Progress, kind: u8) -> usize
     ensures { result ≡ body_length p kind }
 {
     if !reachable(p) {
         return 0;
     }
-    match p {
-        Progress::Start => if kind == SETUP { SETUP_LENGTH } else { 0 },
-        Progress::Running {
-            settings,
-            frames: count,
-        } => {
-            if (kind == FRAME) & (count < MOST_FRAMES) {
-                frame_length(settings)
-            } else {
-                0
-            }
+    match (p, kind) {
+        (Progress::Start, SETUP) => SETUP_LENGTH,
+        (Progress::Running { settings, frames }, FRAME) if frames < MOST_FRAMES => {
+            frame_length(settings)
         }
-        Progress::Ended { .. } => 0,
-        Progress::Bad { .. } => 0,
+        _ => 0,
     }
 }
 
-fn take_setup(kind: u8, body: &[u8]) -> Progress
-    ensures { result ≡ taken Progress.Start kind body.now }
+// The progress after the setup.
+#[tactic(auto, unfolding(crate::specs::Steps::taken))]
+fn take_setup(body: &[u8]) -> Progress
+    ensures { result ≡ taken Progress.Start 1 body.now }
 {
     let settings = setup_of(body);
-    if (kind == SETUP) & ((body.len() == SETUP_LENGTH) & fits(settings)) {
+    if (body.len() == SETUP_LENGTH) & fits(settings) {
         Progress::Running {
             settings,
             frames: 0,
@@ -150,55 +148,48 @@ fn take_setup(kind: u8, body: &[u8]) -> Progress
     }
 }
 
-// A frame or the end, after so many frames.
-fn take_next(s: Settings, count: u32, kind: u8, body: &[u8]) -> Progress
+// The progress after a frame, which comes after so many.
+#[tactic(auto, unfolding(crate::specs::Steps::taken, frames::specs::Frame::frame_length))]
+fn take_frame(s: Settings, count: u32, body: &[u8]) -> Progress
     requires { reachable (Progress.Running s count) ≡ true }
-    ensures { result ≡ taken (Progress.Running s count) kind body.now }
+    ensures { result ≡ taken (Progress.Running s count) 2 body.now }
 {
-    if (kind == FRAME) & ((count < MOST_FRAMES) & frames::has_length(s, body.len())) {
-        return Progress::Running {
+    if (count < MOST_FRAMES) & frames::has_length(s, body.len()) {
+        Progress::Running {
             settings: s,
             frames: count + 1,
-        };
+        }
+    } else {
+        bad(Progress::Running {
+            settings: s,
+            frames: count,
+        })
     }
-    if (kind == END) & (body.len() == 0) {
-        return Progress::Ended { frames: count };
-    }
-    bad(Progress::Running {
-        settings: s,
-        frames: count,
-    })
 }
 
 // The progress after a record of this kind and this body, which is shorter than its length where the input is cut.
+#[tactic(auto, unfolding(crate::specs::Steps::taken))]
 pub fn take(p: Progress, kind: u8, body: &[u8]) -> Progress
     ensures { result ≡ taken p kind body.now }
 {
     if !reachable(p) {
         return bad(p);
     }
-    match p {
-        Progress::Start => take_setup(kind, body),
-        Progress::Running {
-            settings,
-            frames: count,
-        } => take_next(settings, count, kind, body),
-        Progress::Ended { .. } => bad(p),
-        Progress::Bad { .. } => bad(p),
+    match (p, kind) {
+        (Progress::Start, SETUP) => take_setup(body),
+        (Progress::Running { settings, frames }, FRAME) => take_frame(settings, frames, body),
+        (Progress::Running { frames, .. }, END) if body.is_empty() => Progress::Ended { frames },
+        _ => bad(p),
     }
 }
 
 // The progress when the input has ended.
+#[tactic(auto, unfolding(crate::specs::Steps::closed))]
 pub fn close(p: Progress) -> Progress
     ensures { result ≡ closed p }
 {
-    if !reachable(p) {
-        return bad(p);
-    }
     match p {
-        Progress::Start => bad(p),
-        Progress::Running { .. } => bad(p),
-        Progress::Ended { .. } => p,
-        Progress::Bad { .. } => bad(p),
+        Progress::Ended { .. } if reachable(p) => p,
+        _ => bad(p),
     }
 }

@@ -1,10 +1,11 @@
 -- The primary header of a space packet: seven fields in six octets.
-use Rattle.std.specs.Prelude.{ℕ, List, [], ◌∷◌, Bool, true, false, not, length, leb, ltb, eqb}
+use Rattle.std.specs.Prelude.{ℕ, List, [], ◌∷◌, Bool, true, false, not, length, leb, ltb, eqb, Result, Ok, Err}
 use Rattle.octets.specs.Basics.{pick, and, or, number_at, octets, over, Row, row, first}
+use Rattle.octets.specs.declared.refusals.Refusal.{Refusal}
+use Rattle.octets.specs.Refusals.{number_of, refusal_of}
 use Rattle.words.specs.Fields.{read, write}
 use Rattle.words.specs.declared.Place.{Place}
 use Rattle.space.specs.declared.SpaceHeader.{SpaceHeader}
-use Rattle.space.specs.declared.SpaceRead.{SpaceRead}
 
 -- the fields' places in the header's 48 bits
 abbrev pub version_at : Place
@@ -77,17 +78,20 @@ pub record SpaceReading : Type 0 where
 abbrev no_header : SpaceHeader
 no_header = record { version = 0; packet_type = 0; secondary = 0; apid = 0; flags = 0; count = 0; length = 0 }
 
--- the rule: a refused call tells of no header
+-- a call that is refused by n tells of no header
+abbrev pub space_refused : ℕ → SpaceReading
+space_refused n = record { accepted = false; refusal = n; header = no_header }
+
+-- the rule
 unfoldable pub space_reading : List ℕ → SpaceReading
 space_reading os =
     let refusal : ℕ = first (space_read_rows os) in
-    pick (eqb refusal 0) (record { accepted = true; refusal = 0; header = space_fields (number_at 6 0 os) })
-    (record { accepted = false; refusal = refusal; header = no_header })
+    pick (eqb refusal 0) (record { accepted = true; refusal = 0; header = space_fields (number_at 6 0 os) }) (space_refused refusal)
 
 -- an answer in numbers
-unfoldable pub space_reads : SpaceRead → SpaceReading
-space_reads (SpaceRead.Refused refusal) = record { accepted = false; refusal = refusal; header = no_header }
-space_reads (SpaceRead.Read header) = record { accepted = true; refusal = 0; header = header }
+unfoldable pub space_reads : Result SpaceHeader Refusal → SpaceReading
+space_reads (Err refusal) = space_refused (number_of refusal)
+space_reads (Ok header) = record { accepted = true; refusal = 0; header = header }
 
 -- ---- writing
 
@@ -110,5 +114,5 @@ space_writing h output =
     }
 
 -- an answer, and the output as it is left
-unfoldable pub space_writes : ℕ → List ℕ → SpaceWriting
-space_writes refusal output = record { refusal = refusal; output = output }
+unfoldable pub space_writes : Result (Unit {0}) Refusal → List ℕ → SpaceWriting
+space_writes answer output = record { refusal = refusal_of answer; output = output }

@@ -5,11 +5,11 @@ ghost use Rattle.std.specs.Prelude.{◌≡◌, ◌≤◌};
 ghost use Rattle.words.specs.Fields.{read};
 ghost use Rattle.space.specs.Space.{space_word, space_in_range, space_reading, space_reads, space_writes, space_writing};
 
-use octets::refusals;
+use octets::Refusal;
 use words::Place;
 
 // The seven fields.
-#[derive(Clone, Copy)]
+#[derive(Clone, Copy, Debug, PartialEq, Eq)]
 pub struct SpaceHeader {
     pub version: u8,
     pub packet_type: u8,
@@ -18,13 +18,6 @@ pub struct SpaceHeader {
     pub flags: u8,
     pub count: u16,
     pub length: u16,
-}
-
-// What comes of reading a header.
-#[derive(Clone, Copy)]
-pub enum SpaceRead {
-    Refused { refusal: u8 },
-    Read { header: SpaceHeader },
 }
 
 // The header's octets.
@@ -74,6 +67,7 @@ const MOST_FLAGS: u8 = 3;
 const MOST_COUNT: u16 = 16383;
 
 // A field of eight bits at most.
+#[tactic(auto, using(words::proofs::Fields::field_within))]
 fn narrow(word: u64, at: Place) -> u8
     requires { at.width ≤ 8 }
     ensures { result ≡ read at word }
@@ -82,6 +76,7 @@ fn narrow(word: u64, at: Place) -> u8
 }
 
 // A field of sixteen bits at most.
+#[tactic(auto, using(words::proofs::Fields::field_within))]
 fn wide(word: u64, at: Place) -> u16
     requires { at.width ≤ 16 }
     ensures { result ≡ read at word }
@@ -90,17 +85,15 @@ fn wide(word: u64, at: Place) -> u16
 }
 
 // Reads the header in the first six octets; fewer, or another version, are refused.
-pub fn read_space(start: &[u8]) -> SpaceRead
+pub fn read_space(start: &[u8]) -> Result<SpaceHeader, Refusal>
     ensures { space_reads result ≡ space_reading start.now }
 {
-    let word = octets::number6(start, 0);
+    let word = octets::number::<HEADER>(start, 0);
     let version = narrow(word, VERSION);
     if (start.len() < HEADER) | (version != 0) {
-        return SpaceRead::Refused {
-            refusal: refusals::PACKET,
-        };
+        return Err(Refusal::Packet);
     }
-    let header = SpaceHeader {
+    Ok(SpaceHeader {
         version,
         packet_type: narrow(word, TYPE),
         secondary: narrow(word, SECONDARY),
@@ -108,11 +101,11 @@ pub fn read_space(start: &[u8]) -> SpaceRead
         flags: narrow(word, FLAGS),
         count: wide(word, COUNT),
         length: wide(word, LENGTH),
-    };
-    SpaceRead::Read { header }
+    })
 }
 
 // Whether the version is a space packet's and each field within its width; a length always is.
+#[tactic(auto, unfolding(crate::specs::Space::space_in_range))]
 fn in_range(h: SpaceHeader) -> bool
     ensures { result ≡ space_in_range h }
 {
@@ -123,6 +116,7 @@ fn in_range(h: SpaceHeader) -> bool
 }
 
 // The header as one word of 48 bits.
+#[tactic(auto, unfolding(crate::specs::Space::space_word))]
 fn word_of(h: SpaceHeader) -> u64
     ensures { result ≡ space_word h }
 {
@@ -135,16 +129,12 @@ fn word_of(h: SpaceHeader) -> u64
     words::placed(word, LENGTH, h.length as u64)
 }
 
-// Writes a header over the first six octets, and answers 0; or answers the refusal, and writes nothing.
-pub fn write_space(h: SpaceHeader, out: &mut [u8]) -> u8
+// Writes a header over the first six octets; or nothing, where it is refused.
+pub fn write_space(h: SpaceHeader, out: &mut [u8]) -> Result<(), Refusal>
     ensures { space_writes result out.new ≡ space_writing h out.old }
 {
     if !in_range(h) {
-        return refusals::SETTING;
+        return Err(Refusal::Setting);
     }
-    if out.len() < HEADER {
-        return refusals::ROOM;
-    }
-    octets::put(out, 0, HEADER, word_of(h));
-    0
+    octets::put(out, 0, HEADER, word_of(h))
 }

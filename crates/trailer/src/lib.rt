@@ -14,6 +14,7 @@ pub const OCTETS: usize = 2;
 const PRESET: u16 = 0xFFFF;
 
 // The register after one octet more.
+#[tactic(auto, using(crate::proofs::Table::octet_step))]
 fn next(table: &[u16; 256], register: u16, octet: u8) -> u16
     requires { Remainders table.now }
     ensures { result ≡ divided register (bits 8 octet) }
@@ -28,10 +29,8 @@ pub fn remainder(octets: &[u8]) -> u16
 {
     let table = entries::REMAINDERS;
     let mut register = PRESET;
-    let mut i = 0;
-    while i < octets.len() {
-        register = next(&table, register, octets[i]);
-        i += 1;
+    for &octet in octets {
+        register = next(&table, register, octet);
     }
     register
 }
@@ -51,12 +50,13 @@ fn put_trailer(buf: &mut [u8], at: usize)
         return;
     }
     let r = remainder(&buf[..at]);
-    octets::put(buf, at, OCTETS, r as u64);
+    let _ = octets::put(buf, at, OCTETS, r as u64);
 }
 
 // ---- as a setting
 
 // How many octets a frame has more.
+#[tactic(auto, unfolding(crate::specs::Trailer::extra))]
 pub fn extra(on: bool) -> usize
     ensures { result ≡ extra on }
 {
@@ -64,13 +64,15 @@ pub fn extra(on: bool) -> usize
 }
 
 // Whether the trailer of a frame is wrong; never where there is none.
+#[tactic(auto, unfolding(crate::specs::Trailer::wrong))]
 pub fn is_wrong(on: bool, frame: &[u8]) -> bool
     ensures { result ≡ wrong on frame.now }
 {
-    if on { !is_right(frame) } else { false }
+    on && !is_right(frame)
 }
 
 // Ends a frame whose first `at` octets are done.
+#[tactic(auto, unfolding(crate::specs::Trailer::ended))]
 pub fn end_frame(on: bool, buf: &mut [u8], at: usize)
     ensures { buf.new ≡ ended on buf.old at }
 {

@@ -1,7 +1,7 @@
 // The bitstream channel: bits into frames, and the bits of a frame.
-use crate::hex::Given;
-use crate::run::{BitReceiver, Ends};
-use crate::{run, say};
+use crate::run::{self, Ends};
+use crate::say;
+use crate::say::Octets;
 use bitstream::Reading;
 use frames::Settings;
 use frames::bits::BitSettings;
@@ -9,62 +9,55 @@ use std::io;
 
 // The settings of a channel, for bits.
 fn for_bits(s: Settings) -> BitSettings {
-    let link = s.link;
     BitSettings {
-        link,
+        link: s.link,
         width: s.zone,
         fill: s.fill,
     }
 }
 
-// The line of a frame that is written with n bits.
-fn wrote(rt: &impl Print, e: Ends, n: usize, refusal: u8, frame: &[u8]) -> io::Result<()> {
-    say::label(rt, e.label)?;
-    say::numbers(rt, say::WRITES_BITS, n as u64, refusal as u64, 0, 0)?;
-    say::octets(rt, octets::part(frame, 0, run::frame_length(e.settings)))?;
-    say::end(rt)
-}
-
-// Writes the first n of the bits that are lent into a frame.
-pub(crate) fn write(rt: &impl Print, e: Ends, n: usize, lent: &[u8]) -> io::Result<Ends> {
-    let mut frame = [0u8; run::LONGEST];
-    let answer = bitstream::write(for_bits(e.settings), e.writer, lent, n, &mut frame);
-    wrote(rt, e, n, answer.refusal, &frame)?;
-    let writer = answer.writer;
-    let mut after = e;
-    after.writer = writer;
-    Ok(after)
-}
-
-// What is said of a frame that is read: its count, the loss flag, and how many bits it has; or its refusal.
-fn heard(rt: &impl Print, label: Given, answer: Reading) -> io::Result<()> {
-    say::label(rt, label)?;
-    if answer.refusal != 0 {
-        say::phrase(rt, say::READS)?;
-        return say::refused(rt, answer.refusal);
-    }
-    say::numbers(
-        rt,
-        say::READS_BITS,
-        answer.count as u64,
-        answer.lost as u64,
-        answer.bits as u64,
-        0,
+// What is said of a frame that is read: its count, the loss flag, and how many bits it has.
+fn heard(rt: &impl Print, r: Reading) -> io::Result<()> {
+    let lost = u8::from(r.lost);
+    print!(rt;
+        " reads frame {} loss flag {lost} bits {} =",
+        r.count, r.bits
     )
 }
 
-// The line of a frame that is read, up to the octets that hold the bits.
-pub(crate) fn read(rt: &impl Print, e: Ends, frame: &[u8]) -> io::Result<Ends> {
-    let s = for_bits(e.settings);
-    let bits = e.bits;
-    let before = bits.reader;
-    let answer = bitstream::read(s, before, frame);
-    heard(rt, e.label, answer)?;
-    say::octets(rt, bitstream::leading_octets(s, answer.bits, frame))?;
-    say::end(rt)?;
-    let reader = answer.reader;
-    let next = BitReceiver { reader };
-    let mut after = e;
-    after.bits = next;
-    Ok(after)
+impl Ends<'_> {
+    // Writes the first n of the bits that are lent into a frame.
+    pub(crate) fn write_bits(&mut self, rt: &impl Print, n: usize, lent: &[u8]) -> io::Result<()> {
+        let mut frame = [0u8; run::LONGEST];
+        let answer = bitstream::write(for_bits(self.settings), self.writer, lent, n, &mut frame);
+        let refusal = match answer {
+            Err(refusal) => refusal.number(),
+            Ok(writer) => {
+                self.writer = writer;
+                0
+            }
+        };
+        rt.write_all(self.label)?;
+        print!(rt; " writes {n} bits, refusal {refusal}:")?;
+        println!(rt; "{}", Octets(run::whole(self.settings, &frame)))
+    }
+
+    // The line of a frame that is read, up to the octets that hold the bits.
+    pub(crate) fn read_bits(&mut self, rt: &impl Print, frame: &[u8]) -> io::Result<()> {
+        let s = for_bits(self.settings);
+        rt.write_all(self.label)?;
+        match bitstream::read(s, self.reader, frame) {
+            Err(refusal) => {
+                print!(rt; " reads")?;
+                say::refused(rt, refusal)?;
+            }
+            Ok(reading) => {
+                self.reader = reading.reader;
+                heard(rt, reading)?;
+                let octets = bitstream::leading_octets(s, reading.bits, frame);
+                print!(rt; "{}", Octets(octets))?;
+            }
+        }
+        println!(rt)
+    }
 }

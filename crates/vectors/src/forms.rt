@@ -1,6 +1,6 @@
 // The forms of a line. In a form `%` stands for a number of at most seven digits, `$` for octets up to the line's end, `*` for
 // any text up to it, 4,096 octets at most of either, and every other sign for itself.
-use crate::{hex, text};
+use crate::hex;
 use frames::Edition;
 
 // What is asked of the multiplexer.
@@ -56,208 +56,150 @@ pub(crate) enum Verb {
     // A packet for the relay.
     Route,
     Ask(Question),
-    // In none of the forms.
-    Unknown,
 }
 
-// A line as far as it is read by a form: whether that is all of both, where it is read to, and what stands in it for the last eight
-// signs: a number by its value, octets and a text by where they begin.
-#[derive(Clone, Copy)]
-pub(crate) struct Numbers {
-    pub(crate) fit: bool,
-    pub(crate) end: usize,
-    pub(crate) first: usize,
-    pub(crate) second: usize,
-    pub(crate) third: usize,
-    pub(crate) fourth: usize,
-    pub(crate) fifth: usize,
-    pub(crate) sixth: usize,
-    pub(crate) seventh: usize,
-    pub(crate) last: usize,
-}
+// No form has more numbers.
+const MOST_NUMBERS: usize = 8;
 
-// A line by its verb and its numbers.
+// The numbers of a line, in their order, behind as many 0 as are missing.
+pub(crate) type Numbers = [usize; MOST_NUMBERS];
+
+pub(crate) const NO_NUMBERS: Numbers = [0; MOST_NUMBERS];
+
+// What a line asks: its verb, its numbers, and what stands there for `$` or `*`.
 #[derive(Clone, Copy)]
-pub(crate) struct Asked {
+pub(crate) struct Asked<'a> {
     pub(crate) verb: Verb,
     pub(crate) numbers: Numbers,
+    pub(crate) written: &'a [u8],
 }
 
-pub(crate) const NONE: Numbers = Numbers {
-    fit: false,
-    end: 0,
-    first: 0,
-    second: 0,
-    third: 0,
-    fourth: 0,
-    fifth: 0,
-    sixth: 0,
-    seventh: 0,
-    last: 0,
-};
+// Each form, and the verb of a line in it.
+const FORMS: &[(&[u8], Verb)] = &[
+    (b"", Verb::Note),
+    (b"#", Verb::Note),
+    (b"#*", Verb::Note),
+    (b"label *", Verb::Label),
+    (
+        b"channel % of spacecraft %, zone %, limit %",
+        Verb::Channel(Edition::Former),
+    ),
+    (b"send $", Verb::Transmit(Call::Put)),
+    (b"flush", Verb::Transmit(Call::Flush)),
+    (b"idle zone", Verb::Transmit(Call::IdleZone)),
+    (b"read $", Verb::Read),
+    (b"put % octets: $", Verb::Put),
+    (b"write % bits: $", Verb::Write),
+    (b"read bits $", Verb::ReadBits),
+    (
+        b"wrap at M % protocol % extension %, octets %",
+        Verb::Ask(Question::Wrap),
+    ),
+    (
+        b"wrap nothing into an output that is too short",
+        Verb::Ask(Question::WrapNothing),
+    ),
+    (b"unwrap $", Verb::Ask(Question::Unwrap)),
+    (b"header $", Verb::Ask(Question::Header)),
+    (b"line %: $", Verb::Ask(Question::Lent)),
+    (b"space header $", Verb::Ask(Question::SpaceHeader)),
+    (
+        b"write space header into % octets: version % type % secondary % APID % flags % count % length %",
+        Verb::Ask(Question::WriteSpaceHeader),
+    ),
+    (b"load $", Verb::Load),
+    (b"load nothing", Verb::Load),
+    (b"route into % octets: $", Verb::Route),
+    (b"trailers", Verb::Trailers),
+    (b"remainder $", Verb::Ask(Question::Remainder)),
+    (b"remainder of nothing", Verb::Ask(Question::Remainder)),
+    (
+        b"channel % of spacecraft %, zone %, limit %, count usage 0",
+        Verb::Channel(Edition::CycleUnused),
+    ),
+    (
+        b"channel % of spacecraft %, zone %, limit %, count usage 1",
+        Verb::Channel(Edition::CycleUsed),
+    ),
+];
 
-// The verb of the form that stands at the `k`th line, from 0, of the text in `read`.
-fn verb_at(k: usize) -> Verb {
-    match k {
-        0..=2 => Verb::Note,
-        3 => Verb::Label,
-        4 => Verb::Channel(Edition::Former),
-        5 => Verb::Transmit(Call::Put),
-        6 => Verb::Transmit(Call::Flush),
-        7 => Verb::Transmit(Call::IdleZone),
-        8 => Verb::Read,
-        9 => Verb::Put,
-        10 => Verb::Write,
-        11 => Verb::ReadBits,
-        12 => Verb::Ask(Question::Wrap),
-        13 => Verb::Ask(Question::WrapNothing),
-        14 => Verb::Ask(Question::Unwrap),
-        15 => Verb::Ask(Question::Header),
-        16 => Verb::Ask(Question::Lent),
-        17 => Verb::Ask(Question::SpaceHeader),
-        18 => Verb::Ask(Question::WriteSpaceHeader),
-        19 | 20 => Verb::Load,
-        21 => Verb::Route,
-        22 => Verb::Trailers,
-        23 | 24 => Verb::Ask(Question::Remainder),
-        25 => Verb::Channel(Edition::CycleUnused),
-        26 => Verb::Channel(Edition::CycleUsed),
-        _ => Verb::Unknown,
-    }
+// A line as far as it is read by a form: what is left of it, and what was read.
+#[derive(Clone, Copy)]
+struct Line<'a> {
+    rest: &'a [u8],
+    numbers: Numbers,
+    written: &'a [u8],
 }
 
-// With one more number, and read to `end`.
-fn more(n: Numbers, number: usize, end: usize) -> Numbers {
-    Numbers {
-        fit: false,
-        end,
-        first: n.second,
-        second: n.third,
-        third: n.fourth,
-        fourth: n.fifth,
-        fifth: n.sixth,
-        sixth: n.seventh,
-        seventh: n.last,
-        last: number,
-    }
-}
-
-// Reads a number.
-fn number(line: &[u8], n: Numbers) -> Numbers {
-    let mut end = n.end;
-    let mut number: usize = 0;
-    while end < line.len() {
-        let digit = hex::value(line[end]) as usize;
-        if digit > 9 {
-            break;
+impl<'a> Line<'a> {
+    // Reads a number; none where no digit stands there.
+    fn number(&mut self) -> Option<()> {
+        let (number, rest) = number(self.rest);
+        if rest.len() == self.rest.len() {
+            return None;
         }
-        if number > 999999 {
-            break;
-        }
-        number = number * 10 + digit;
-        end += 1;
+        self.rest = rest;
+        self.numbers.rotate_left(1);
+        self.numbers[MOST_NUMBERS - 1] = number;
+        Some(())
     }
-    more(n, number, end)
-}
 
-// Reads what a sign of a form stands for; nothing where something else stands there.
-fn take(sign: u8, line: &[u8], n: Numbers) -> Numbers {
-    let at = n.end;
-    match sign {
-        b'%' => number(line, n),
-        b'$' => {
-            let given = hex::read(line, at);
-            if given.size > 0 {
-                return more(n, at, line.len());
+    // Reads all that is left.
+    fn all(&mut self) {
+        self.written = self.rest;
+        self.rest = &[];
+    }
+
+    // Reads what a sign of a form stands for; none where something else stands there.
+    fn take(&mut self, sign: u8) -> Option<()> {
+        match sign {
+            b'%' => self.number()?,
+            b'$' => {
+                hex::read(self.rest, &mut [0; hex::MOST])?;
+                self.all();
             }
-            n
+            b'*' if self.rest.is_empty() || hex::MOST < self.rest.len() => return None,
+            b'*' => self.all(),
+            _ => self.rest = self.rest.strip_prefix(&[sign])?,
         }
-        b'*' => {
-            if octets::rest(line.len(), at) > 4096 {
-                return n;
-            }
-            more(n, at, line.len())
-        }
-        _ => {
-            if at < line.len() {
-                if line[at] == sign {
-                    let mut next = n;
-                    next.end = at + 1;
-                    return next;
-                }
-            }
-            n
-        }
+        Some(())
     }
 }
 
-// A line held against a form.
-fn try_form(form: &[u8], line: &[u8]) -> Numbers {
-    let mut n = NONE;
-    let mut i = 0;
-    while i < form.len() {
-        let next = take(form[i], line, n);
-        if next.end == n.end {
-            return n;
+// The number that a text begins with, 0 where it begins with none, and what stands behind it: it has seven digits at most, and any zeros
+// before them.
+fn number(text: &[u8]) -> (usize, &[u8]) {
+    let mut number = 0;
+    for (at, sign) in text.iter().enumerate() {
+        match sign {
+            b'0'..=b'9' if number < 1_000_000 => number = number * 10 + usize::from(*sign - b'0'),
+            _ => return (number, &text[at..]),
         }
-        n = next;
-        i += 1;
     }
-    n.fit = n.end == line.len();
-    n
+    (number, &[])
 }
 
-// The first of the forms that a line is in.
-fn find(forms: &[u8], line: &[u8]) -> Asked {
-    let mut at = 0;
-    let mut k = 0;
-    while at < forms.len() {
-        let end = text::line_end(forms, at);
-        let numbers = try_form(octets::part(forms, at, end - at), line);
-        if numbers.fit {
-            return Asked {
-                verb: verb_at(k),
-                numbers,
-            };
-        }
-        at = end + 1;
-        k += 1;
+// A line held against a form; none where it is not in it.
+fn try_form<'a>(form: &[u8], text: &'a [u8]) -> Option<Line<'a>> {
+    let mut line = Line {
+        rest: text,
+        numbers: NO_NUMBERS,
+        written: &[],
+    };
+    for sign in form {
+        line.take(*sign)?;
     }
-    Asked {
-        verb: Verb::Unknown,
-        numbers: NONE,
-    }
+    line.rest.is_empty().then_some(line)
 }
 
-// What a line asks.
-pub(crate) fn read(line: &[u8]) -> Asked {
-    let forms = b"
-#
-#*
-label *
-channel % of spacecraft %, zone %, limit %
-send $
-flush
-idle zone
-read $
-put % octets: $
-write % bits: $
-read bits $
-wrap at M % protocol % extension %, octets %
-wrap nothing into an output that is too short
-unwrap $
-header $
-line %: $
-space header $
-write space header into % octets: version % type % secondary % APID % flags % count % length %
-load $
-load nothing
-route into % octets: $
-trailers
-remainder $
-remainder of nothing
-channel % of spacecraft %, zone %, limit %, count usage 0
-channel % of spacecraft %, zone %, limit %, count usage 1
-";
-    find(forms, line)
+// What a line asks by the first of the forms that it is in; none where it is in none.
+pub(crate) fn read(text: &[u8]) -> Option<Asked<'_>> {
+    FORMS.iter().find_map(|(form, verb)| {
+        let line = try_form(form, text)?;
+        Some(Asked {
+            verb: *verb,
+            numbers: line.numbers,
+            written: line.written,
+        })
+    })
 }

@@ -14,15 +14,15 @@ mod say;
 mod script;
 mod text;
 
-// More octets than a text may have.
-const ROOM: usize = 65536;
+// A text has so many octets at most.
+const MOST: usize = 65535;
 
-// The text ends before the room for it does.
+// A text that leaves no room has too many octets.
 fn main(rt: HostRuntime) -> io::Result<()> {
-    let mut text = [0u8; ROOM];
-    let n = text::read(&mut rt.stdin(), &mut text)?;
-    if n < text.len() {
-        return script::follow(&rt, &text[..n]);
+    let mut room = [0u8; MOST + 1];
+    let text = text::read(&mut rt.stdin(), &mut room)?;
+    if text.len() > MOST {
+        return println!(rt; "the text has more than {MOST} octets");
     }
-    say::text(&rt, b"the text has more than 65535 octets\n")
+    script::follow(&rt, text)
 }

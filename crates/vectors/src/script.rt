@@ -1,68 +1,55 @@
 // The text, line by line.
-use crate::forms::{Asked, Numbers, Verb};
+use crate::forms::{Asked, Verb};
 use crate::run::Ends;
-use crate::{ask, bits, forms, hex, relaying, run, say, text};
+use crate::{forms, hex};
 use frames::Edition;
 use std::io;
 
 // Says that a line is not understood.
 fn refuse(rt: &impl Print, number: u64, line: &[u8]) -> io::Result<()> {
-    say::number(rt, say::UNKNOWN, number)?;
-    say::line(rt, line)?;
-    say::end(rt)
+    print!(rt; "line {number} is in none of the forms: ")?;
+    rt.write_all(line)?;
+    println!(rt)
 }
 
-// The channel after a line with these numbers and octets.
-fn obey(
-    rt: &impl Print,
-    verb: Verb,
-    n: Numbers,
-    p: &[u8],
-    line: &[u8],
-    e: Ends,
-) -> io::Result<Ends> {
-    match verb {
-        Verb::Label => Ok(run::label(e, line, n.last)),
-        Verb::Channel(edition) => Ok(run::begin(e.label, edition, n)),
-        Verb::Trailers => Ok(run::trail(e)),
-        Verb::Transmit(call) => run::transmit(rt, call, e, p),
-        Verb::Read => run::hear(rt, e, p),
-        Verb::Put => run::put_long(rt, e, n.seventh, p),
-        Verb::Write => bits::write(rt, e, n.seventh, p),
-        Verb::ReadBits => bits::read(rt, e, p),
-        Verb::Load => relaying::load(rt, e, line, p),
-        Verb::Route => relaying::route(rt, e, n.seventh, line, p),
-        Verb::Ask(question) => ask::answer(rt, question, n, line, e, p),
-        _ => Ok(e),
+// Does what a line asks, with the octets that it writes.
+fn obey<'a>(rt: &impl Print, asked: Asked<'a>, line: &[u8], ends: &mut Ends<'a>) -> io::Result<()> {
+    let mut room = [0; hex::MOST];
+    let octets = hex::read(asked.written, &mut room).unwrap_or(&[]);
+    let [.., n] = asked.numbers;
+    match asked.verb {
+        Verb::Note => Ok(()),
+        Verb::Label => {
+            ends.label = asked.written;
+            Ok(())
+        }
+        Verb::Channel(edition) => {
+            *ends = Ends::begin(ends.label, edition, asked.numbers);
+            Ok(())
+        }
+        Verb::Trailers => {
+            ends.settings.link.trailed = true;
+            Ok(())
+        }
+        Verb::Transmit(call) => ends.transmit(rt, call, octets),
+        Verb::Read => ends.hear(rt, octets),
+        Verb::Put => ends.put_long(rt, n, octets),
+        Verb::Write => ends.write_bits(rt, n, octets),
+        Verb::ReadBits => ends.read_bits(rt, octets),
+        Verb::Load => ends.load(rt, line, octets),
+        Verb::Route => ends.route(rt, n, line, octets),
+        Verb::Ask(question) => ends.answer(rt, question, asked.numbers, line, octets),
     }
-}
-
-// The channel after a line that is understood.
-fn act(rt: &impl Print, asked: Asked, line: &[u8], e: Ends) -> io::Result<Ends> {
-    let verb = asked.verb;
-    let n = asked.numbers;
-    let given = hex::read(line, n.last);
-    let buffer = given.octets;
-    obey(rt, verb, n, octets::part(&buffer, 0, given.size), line, e)
 }
 
 // Every line, up to one that is not understood.
 pub(crate) fn follow(rt: &impl Print, text: &[u8]) -> io::Result<()> {
-    let mut e = run::begin(hex::NONE, Edition::Former, forms::NONE);
-    let mut number: u64 = 1;
-    let mut at = 0;
-    while at < text.len() {
-        let end = text::line_end(text, at);
-        let next = end + 1;
-        let line = octets::part(text, at, end - at);
-        let asked = forms::read(line);
-        let verb = asked.verb;
-        if let Verb::Unknown = verb {
+    let mut ends = Ends::begin(&[], Edition::Former, forms::NO_NUMBERS);
+    for (number, line) in (1..).zip(text.split(|sign| *sign == b'\n')) {
+        let Some(asked) = forms::read(line) else {
             return refuse(rt, number, line);
-        }
-        e = act(rt, asked, line, e)?;
-        at = next;
-        number = std::num::wrapping_add_u64(number, 1);
+        };
+        obey(rt, asked, line, &mut ends)?;
     }
     Ok(())
 }

@@ -31,6 +31,7 @@ pub fn field(word: u64, at: Place) -> u64
 }
 
 // A word moved up by `width` bits, with the low bits of another below it.
+#[tactic(auto, using(crate::proofs::Fields::join_past, crate::proofs::Fields::join_masked))]
 fn joined(high: u64, width: u32, low: u64) -> u64
     ensures { result ≡ join high width low }
 {

@@ -1,3 +1,4 @@
+pub mod Fits
 pub mod Fronts
 pub mod Idles
 pub mod Wraps

@@ -2,12 +2,12 @@
 -- Assumes nothing.
 use mathlib.Core.Path.{◌≡◌, refl, ap, ◌∙◌}
 use mathlib.Core.List.{List, ◌++◌}
-use mathlib.Core.Bool.{true, false}
+use mathlib.Core.Bool.{true}
 use Prim.Native.Nat.{ℕ, ◌+◌, ◌-◌, ◌≤◌}
 use native.Mathlib.Omega.{arith}
 use lib.ListN.{length, take}
 use lib.Seq.{take-length}
-use borrow.Author.Tests.{ltb-false, eqb-false, eq-eqb, ne_eqb, not-false}
+use borrow.Author.Tests.{ltb-false, eqb-false, eq-eqb, not-false}
 use Rattle.octets.specs.Basics.{first, over, laid_part}
 use Rattle.octets.proofs.Choices.{split, none_holds, or_false}
 use Rattle.octets.proofs.Written.{part_within, length_over, over_over}
@@ -69,10 +69,6 @@ module _ (limit protocol extension : ℕ) (unit output : List ℕ) where
 
   abbrev refusal : ℕ
   refusal = first (wrap_rows limit protocol extension (length unit) total (length output))
-
-  pub wrapping_refused : (refusal ≡ 0 → ⊥) → wrapping limit protocol extension unit output ≡ record { accepted = false; refusal = refusal; damage = 0; total = 0; output = output }
-  unfolding wrapping
-  wrapping_refused h = rw (ne_eqb refusal 0 h) refl
 
   pub wrapping_done : refusal ≡ 0
       → wrapping limit protocol extension unit output ≡ record { accepted = true; refusal = 0; damage = 0; total = total; output = over output 0 (wrapped protocol extension unit) }

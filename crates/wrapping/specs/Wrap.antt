@@ -1,10 +1,11 @@
 -- Wrapping a data unit in an encapsulation packet.
-use Rattle.std.specs.Prelude.{◌≡◌, ℕ, ◌+◌, ◌/◌, ◌^◌, ◌≤◌, ◌<◌, List, [], ◌∷◌, ◌++◌, Bool, true, false, not, length, drop, leb, ltb, eqb}
+use Rattle.std.specs.Prelude.{◌≡◌, ℕ, ◌+◌, ◌/◌, ◌^◌, ◌≤◌, ◌<◌, List, [], ◌∷◌, ◌++◌, Bool, true, false, Result, Ok, Err, not, length, drop, leb, ltb, eqb}
 use Rattle.octets.specs.Basics.{pick, and, or, part_of, over, Row, row, first}
+use Rattle.octets.specs.Refusals.{number_of}
+use Rattle.octets.specs.declared.refusals.Refusal.{Refusal}
 use Rattle.packets.specs.Packet.{limit_in_range, WellFormed, header_length}
 use Rattle.packets.specs.Unwrap.{unwrapping}
 use Rattle.wrapping.specs.Front.{front}
-use Rattle.wrapping.specs.declared.Wrapped.{Wrapped}
 
 -- the length-of-length of the smallest header that fits a data unit of n octets; protocol 6 needs four octets at least
 unfoldable pub length_of_length_for : ℕ → ℕ → ℕ
@@ -57,9 +58,9 @@ wrapping limit protocol extension unit output =
     (record { accepted = false; refusal = refusal; damage = 0; total = 0; output = output })
 
 -- an answer, and the output as it is left
-unfoldable pub wraps : Wrapped → List ℕ → Wrapping
-wraps (Wrapped.Refused refusal damage) output = record { accepted = false; refusal = refusal; damage = damage; total = 0; output = output }
-wraps (Wrapped.Total total) output = record { accepted = true; refusal = 0; damage = 0; total = total; output = output }
+unfoldable pub wraps : Result ℕ Refusal → List ℕ → Wrapping
+wraps (Err r) output = record { accepted = false; refusal = number_of r; damage = 0; total = 0; output = output }
+wraps (Ok total) output = record { accepted = true; refusal = 0; damage = 0; total = total; output = output }
 
 -- a header by its length-of-length suits a data unit of n octets: its length field holds the total, and for protocol 6 it has the
 -- extension

@@ -3,11 +3,12 @@
 
 ghost use Rattle.std.specs.Prelude.{◌≡◌, length};
 ghost use Rattle.octets.specs.Basics.{first};
+ghost use Rattle.octets.specs.Refusals.{refusal_of};
 ghost use Rattle.wrapping.specs.Wrap.{length_of_length_for, wrapped_total, wrap_in_range, wrap_rows, wrapping, wraps};
 
-use front::write_front;
-use octets::{limits, refusals};
-use packets::{EXTENDED_PROTOCOL, damage, header_length};
+use front::Front;
+use octets::Refusal;
+use packets::{EXTENDED_PROTOCOL, header_length};
 
 mod front;
 
@@ -23,26 +24,19 @@ const MOST_PROTOCOL: u8 = 7;
 
 const MOST_EXTENSION: u8 = 15;
 
-// What comes of wrapping a data unit.
-#[derive(Clone, Copy)]
-pub enum Wrapped {
-    // The number of the refusal; no packet is lent, so that the damage of its header is none.
-    Refused { refusal: u8, damage: u8 },
-    // The packet's length.
-    Total { total: usize },
-}
-
 // The length-of-length of the smallest header that fits a data unit of n octets.
+#[tactic(auto, unfolding(crate::specs::Wrap::length_of_length_for))]
 fn length_of_length_for(protocol: u8, n: usize) -> u8
     ensures { result ≡ length_of_length_for protocol n }
 {
-    if (n <= MOST_BEHIND_TWO) & (protocol != EXTENDED_PROTOCOL) {
+    if n <= MOST_BEHIND_TWO && protocol != EXTENDED_PROTOCOL {
         return 1;
     }
     if n <= MOST_BEHIND_FOUR { 2 } else { 3 }
 }
 
 // The packet's length.
+#[tactic(auto, using(packets::proofs::Sizes::header_most), unfolding(crate::specs::Wrap::wrapped_total))]
 fn wrapped_total(protocol: u8, unit: &[u8]) -> usize
     ensures { result ≡ wrapped_total protocol (length unit.now) }
 {
@@ -50,54 +44,53 @@ fn wrapped_total(protocol: u8, unit: &[u8]) -> usize
 }
 
 // A protocol from 1 to 7 and an extension up to 15, which is 0 without protocol 6.
+#[tactic(auto, unfolding(packets::specs::Packet::limit_in_range, crate::specs::Wrap::wrap_in_range))]
 fn wrap_in_range(limit: usize, protocol: u8, extension: u8) -> bool
     ensures { result ≡ wrap_in_range limit protocol extension }
 {
-    ((limits::LEAST <= limit) & (limit <= limits::MOST))
-        & ((1 <= protocol)
-            & ((protocol <= MOST_PROTOCOL)
-                & ((extension <= MOST_EXTENSION)
-                    & ((extension == 0) | (protocol == EXTENDED_PROTOCOL)))))
+    packets::in_range(limit)
+        && (1..=MOST_PROTOCOL).contains(&protocol)
+        && extension <= MOST_EXTENSION
+        && (extension == 0 || protocol == EXTENDED_PROTOCOL)
 }
 
-// The first refusal that holds, for a data unit of n octets and a packet of `total`; 0 where none does.
-fn wrap_refusal(
+// Whether a data unit of n octets can be wrapped behind a header; or the first refusal that holds.
+#[tactic(auto, unfolding(octets::specs::Basics::first, crate::specs::Wrap::wrap_rows))]
+fn may_wrap(limit: usize, front: Front, n: usize, room: usize) -> Result<(), Refusal>
+    ensures { refusal_of result ≡ first (wrap_rows limit front.protocol front.extension n front.total room) }
+{
+    if !wrap_in_range(limit, front.protocol, front.extension) {
+        return Err(Refusal::Setting);
+    }
+    if n == 0 || limit < front.total {
+        return Err(Refusal::Packet);
+    }
+    if room < front.total {
+        return Err(Refusal::Room);
+    }
+    Ok(())
+}
+
+// Wraps a data unit into `out`, from the front, and answers the packet's length. A call that is refused writes nothing.
+#[tactic(auto, unfolding(crate::specs::Wrap::wrapping, crate::specs::Wrap::wraps))]
+pub fn wrap(
     limit: usize,
     protocol: u8,
     extension: u8,
-    n: usize,
-    total: usize,
-    room: usize,
-) -> u8
-    ensures { result ≡ first (wrap_rows limit protocol extension n total room) }
-{
-    if !wrap_in_range(limit, protocol, extension) {
-        return refusals::SETTING;
-    }
-    if (n == 0) | (limit < total) {
-        return refusals::PACKET;
-    }
-    if room < total {
-        return refusals::ROOM;
-    }
-    0
-}
-
-// Wraps a data unit into `out`: the packet's octets from the front, and nothing on a refusal.
-pub fn wrap(limit: usize, protocol: u8, extension: u8, unit: &[u8], out: &mut [u8]) -> Wrapped
+    unit: &[u8],
+    out: &mut [u8],
+) -> Result<usize, Refusal>
     ensures { wraps result out.new ≡ wrapping limit protocol extension unit.now out.old }
 {
     let n = unit.len();
-    let total = wrapped_total(protocol, unit);
-    let refusal = wrap_refusal(limit, protocol, extension, n, total, out.len());
-    if refusal != 0 {
-        return Wrapped::Refused {
-            refusal,
-            damage: damage::NONE,
-        };
-    }
-    let code = length_of_length_for(protocol, n);
-    write_front(out, 0, protocol, extension, code, total);
-    octets::lay(out, header_length(code), unit, 0, n);
-    Wrapped::Total { total }
+    let front = Front {
+        protocol,
+        extension,
+        code: length_of_length_for(protocol, n),
+        total: wrapped_total(protocol, unit),
+    };
+    may_wrap(limit, front, n, out.len())?;
+    front.write(out, 0);
+    octets::lay(out, header_length(front.code), unit, 0, n).unwrap();
+    Ok(front.total)
 }

@@ -8,7 +8,7 @@ use native.Mathlib.Omega.{arith}
 use lib.ListN.{length}
 use lib.Dec.{leb, ltb, eqb}
 use borrow.Author.Tests.{leb-true, ltb-true, eqb-true, eqb-false}
-use Rattle.octets.specs.Basics.{and}
+use Rattle.octets.specs.Basics.{and, first}
 use Rattle.octets.proofs.Choices.{and_true}
 use Rattle.octets.proofs.Tests.{test}
 use Rattle.frames.specs.Link.{count_width}
@@ -16,11 +16,11 @@ use Rattle.frames.proofs.Wheel.{wheel_in_word}
 use Rattle.frames.specs.Frame.{most_frames}
 use Rattle.frames.specs.declared.Settings.{Settings}
 use Rattle.extractor.specs.Records.{on_wheel, reachable, holds_well}
-use Rattle.judge.specs.Calls.{counts_well, judge_reachable, JudgeSaid, Calling, close_says, close_call, RunCalls, calls, run_by}
+use Rattle.judge.specs.Judge.{Verdict, pass, fault}
+use Rattle.judge.specs.Calls.{counts_well, judge_reachable, JudgeSaid, Calling, judge_close, CloseSaid, close_rows, close_refused, close_says, closes_with, close_call, RunCalls, calls, run_by}
 use Rattle.judge.specs.Statements.{Keeps}
 use Rattle.judge.specs.declared.Judge.{Judge}
 use Rattle.judge.specs.declared.Judge.TheVariants.{Open, Sound, Faulty}
-use Rattle.judge.specs.declared.Closed.{Closed}
 use Rattle.arrays.specs.Arrays.{told, kept}
 use Rattle.exports.specs.Left.{Left, left}
 use Rattle.exports.specs.Channel.{settings_numbers, settings_of}
@@ -46,12 +46,23 @@ judge_words s store (Faulty tally at) e =
     (omega arith, omega arith)
 
 -- what a caller reads is what the close says
-verdict_back : (c : Closed) (answer : List ℕ) → 2 ≤ length answer
-    → read_verdict (close_says c).refusal (told answer (close_numbers (close_says c))) ≡ close_says c
-unfolding close_says close_numbers
-verdict_back (Closed.Refused n) answer h = rw (told_front answer (0 ∷ 0 ∷ []) h) refl
-verdict_back Closed.Pass answer h = rw (told_front answer (1 ∷ 0 ∷ []) h) refl
-verdict_back (Closed.Fault k) answer h = rw (told_front answer (2 ∷ k ∷ []) h) refl
+abbrev ReadBack : List ℕ → CloseSaid → Type 0
+ReadBack answer c = read_verdict c.refusal (told answer (close_numbers c)) ≡ c
+
+verdict_back : (v : Verdict) (answer : List ℕ) → 2 ≤ length answer → ReadBack answer (close_says (closes_with v))
+unfolding close_says closes_with close_numbers
+verdict_back pass answer h = rw (told_front answer (1 ∷ 0 ∷ []) h) refl
+verdict_back (fault k) answer h = rw (told_front answer (2 ∷ k ∷ []) h) refl
+
+refused_back : (n : ℕ) (answer : List ℕ) → 2 ≤ length answer → ReadBack answer (close_refused n)
+unfolding close_numbers
+refused_back n answer h = rw (told_front answer (0 ∷ 0 ∷ []) h) refl
+
+close_back : (s : Settings) (store : List ℕ) (j : Judge) (answer : List ℕ) → 2 ≤ length answer → ReadBack answer (close_call s store j)
+unfolding close_call
+close_back s store j answer h =
+    let n : ℕ = first (close_rows s store j) in
+    test (eqb n 0) (λ t. rw t (verdict_back (judge_close j) answer h)) (λ t. rw t (refused_back n answer h))
 
 -- the run of C calls and the library's go on together
 record Follows (r : JudgingInC) (q : RunCalls) : Type 0 where
@@ -129,8 +140,8 @@ module _ (call : Calling) (keeps : Keeps call) (settings : List ℕ) (stated : s
 
   closes : (numbers store answer : List ℕ) → 4 ≤ length numbers → 2 ≤ length answer
       → (let l : Left = close_leaves settings numbers store answer in read_verdict l.refusal l.answer) ≡ close_call s store (judge_of numbers)
-  unfolding close_leaves close_call
-  closes numbers store answer long h = rw (long_enough settings numbers answer 2 stated long h) (verdict_back _ answer h)
+  unfolding close_leaves
+  closes numbers store answer long h = rw (long_enough settings numbers answer 2 stated long h) (close_back s store (judge_of numbers) answer h)
 
   -- ---- from the start
 

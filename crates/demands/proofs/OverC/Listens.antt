@@ -20,8 +20,7 @@ use Rattle.extractor.specs.Answers.{EnterNumbers, EnterSaid, enter_answer, StepN
 use Rattle.extractor.specs.Calls.{event_at, Finds, goes_on, one_more, none_left, steps, all_said, tells, listen}
 use Rattle.extractor.specs.declared.Extractor.{Extractor}
 use Rattle.extractor.specs.declared.Extractor.TheVariants.{Fresh, Astray, InStep, Walking, Leaving}
-use Rattle.extractor.specs.declared.Found.{Found}
-use Rattle.extractor.specs.declared.Found.TheVariants.{Refused, InFrame, InStore, Damaged, Spent}
+use Rattle.extractor.specs.Found.{Found, Refused, InFrame, InStore, Damaged, Spent}
 use Rattle.extractor.proofs.Theorems.{keeps_to_the_test}
 use Rattle.extractor.proofs.Turns.{Packed, framed, stored, Turn, leave, keep, break, give, turn}
 use Rattle.extractor.proofs.Unrefused.{moves}

@@ -18,8 +18,7 @@ use Rattle.frames.proofs.Settled.{settled}
 use Rattle.extractor.specs.Records.{step_rows, Stepped, step_call, shown}
 use Rattle.extractor.specs.Answers.{found_numbers}
 use Rattle.extractor.specs.declared.Extractor.{Extractor}
-use Rattle.extractor.specs.declared.Found.{Found}
-use Rattle.extractor.specs.declared.Found.TheVariants.{Refused, InFrame, InStore, Damaged, Spent}
+use Rattle.extractor.specs.Found.{Found, Refused, InFrame, InStore, Damaged, Spent}
 use Rattle.extractor.proofs.Places.{ahead}
 use Rattle.extractor.proofs.Turns.{Packed, framed, stored, Turn, leave, keep, break, give, turn}
 use Rattle.extractor.proofs.Unrefused.{moves}

@@ -12,12 +12,11 @@ use Rattle.octets.proofs.Tests.{test}
 use Rattle.frames.specs.Link.{count_width}
 use Rattle.frames.proofs.Wheel.{wheel_in_word}
 use Rattle.frames.specs.declared.bits.BitSettings.{BitSettings}
-use Rattle.bitstream.specs.Bitstream.{reader_reachable, reading}
+use Rattle.bitstream.specs.Bitstream.{reader_reachable, Reading, reading}
 use Rattle.bitstream.specs.Loss.{BitsSaid}
 use Rattle.bitstream.specs.Statements.{as_said, run_read}
 use Rattle.bitstream.specs.declared.Reader.{Reader}
 use Rattle.bitstream.specs.declared.Reader.TheVariants.{Fresh, Last}
-use Rattle.bitstream.specs.declared.Reading.{Reading}
 use Rattle.bitstream.proofs.Answers.{read_refusal, read_refused}
 use Rattle.bitstream.proofs.Readings.{readable}
 use Rattle.bitstream.proofs.Reached.{reader_kept}

@@ -3,7 +3,6 @@
 use mathlib.Core.Path.{sym, ◌∙◌}
 use Rattle.demands.specs.calls.Arrays.{OfArrays}
 use Rattle.demands.proofs.Promised.{left_same, exactly}
-use Rattle.demands.proofs.calls.Octets.{lays}
 
 pub of_arrays : OfArrays
 of_arrays = record {
@@ -11,7 +10,11 @@ of_arrays = record {
   octet_of = λ n. exactly;
   count_of = λ n. exactly;
   entry = λ κs numbers at. exactly;
-  put = λ κs array numbers. lays _ _;
+  put = λ κs array numbers. record {
+    free = tt;
+    gives = λ o m. left_same o _ m.answer m.left;
+    one = λ o o' p q. left_same o o' (p.answer ∙ sym q.answer) (p.left ∙ sym q.left);
+  };
   keep = λ κs array refusal numbers. record {
     free = tt;
     gives = λ o m. left_same o _ m.0 m.1;

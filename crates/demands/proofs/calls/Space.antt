@@ -1,19 +1,21 @@
 -- The promises of `space`.
 -- Assumes nothing.
 use Prim.Native.Nat.{ℕ}
-use mathlib.Core.Path.{◌≡◌, refl, ap}
+use mathlib.Core.Path.{◌≡◌, refl, sym, ap, ◌∙◌}
 use mathlib.Core.List.{List}
 use lib.ListN.{length}
 use lib.Dec.{eqb}
 use borrow.Author.Tests.{eqb-true}
+use Rattle.std.specs.Prelude.{Result, Ok}
 use Rattle.octets.specs.Basics.{pick, number_at, octets, over, first}
-use Rattle.octets.proofs.Tests.{test, told_apart}
-use Rattle.space.specs.Space.{space_fields, space_word, space_read_rows, space_reading, space_reads, space_rows, SpaceWriting, space_writing, space_writes}
-use Rattle.space.specs.declared.SpaceRead.{SpaceRead}
+use Rattle.octets.specs.declared.refusals.Refusal.{Refusal}
+use Rattle.octets.proofs.ByNumber.{same_refusal}
+use Rattle.octets.proofs.Tests.{test}
+use Rattle.space.specs.Space.{space_fields, space_word, space_read_rows, space_refused, space_reading, space_reads, space_rows, SpaceWriting, space_writing, space_writes}
 use Rattle.space.proofs.Determined.{space_determined}
 use Rattle.demands.specs.Promises.{Left}
 use Rattle.demands.specs.calls.Space.{OfSpace}
-use Rattle.demands.proofs.Promised.{promised}
+use Rattle.demands.proofs.Promised.{promised, left_same}
 
 -- what is written with its refusal, as a choice of both
 writing_by_row : (n : ℕ) (new old : List ℕ)
@@ -26,18 +28,19 @@ unfolding space_reading space_reads space_writing space_writes
 of_space = record {
   read_space = λ κs os-lent.
       let os : List ℕ = os-lent.now in
-      promised space_reads (λ a. a.refusal) (space_read_rows os) (space_reads (SpaceRead.Read (space_fields (number_at 6 0 os))))
-      (λ n. space_reads (SpaceRead.Refused n)) refl refl (λ n. refl)
+      promised space_reads (λ a. a.refusal) (space_read_rows os) (space_reads (Ok (space_fields (number_at 6 0 os))))
+      space_refused refl refl (λ n. refl)
       (record { free = tt; gives = λ o m. m; one = λ o o' p q. space_determined p q });
   write_space = λ κs h out-lent.
       let out : List ℕ = out-lent.now in
-      promised (λ (o : Left ℕ). space_writes o.answer o.lent) (λ a. a.refusal) (space_rows h (length out))
+      promised (λ (o : Left (Result (Unit {0}) Refusal)). space_writes o.answer o.lent) (λ a. a.refusal) (space_rows h (length out))
       (record { refusal = 0; output = over out 0 (octets 6 (space_word h)) }) (λ n. record { refusal = n; output = out })
       (writing_by_row (first (space_rows h (length out))) (over out 0 (octets 6 (space_word h))) out) refl (λ n. refl)
       (record {
         free = tt;
         gives = λ o m. m;
-        one = λ o o' p q. told_apart (λ (o : Left ℕ). space_writes o.answer o.lent)
-            (λ (a : SpaceWriting). record { answer = a.refusal; lent = a.output }) (λ o. refl) p q;
+        one = λ o o' p q.
+            let same : space_writes o.answer o.lent ≡ space_writes o'.answer o'.lent = p ∙ sym q in
+            left_same o o' (same_refusal o.answer o'.answer (ap (λ (a : SpaceWriting). a.refusal) same)) (ap (λ (a : SpaceWriting). a.output) same);
       });
 }

@@ -5,9 +5,10 @@ use mathlib.Core.Path.{refl}
 use mathlib.Core.List.{List}
 use mathlib.Core.Bool.{true, false}
 use lib.ListN.{length}
+use Rattle.std.specs.Prelude.{Result}
 use Rattle.octets.specs.Basics.{over}
+use Rattle.octets.specs.declared.refusals.Refusal.{Refusal}
 use Rattle.wrapping.specs.Wrap.{wrapped, wrapped_total, wrapping, wraps}
-use Rattle.wrapping.specs.declared.Wrapped.{Wrapped}
 use Rattle.wrapping.proofs.Determined.{wrapped_determined}
 use Rattle.demands.specs.Promises.{Left}
 use Rattle.demands.specs.calls.Wrapping.{OfWrapping}
@@ -19,7 +20,7 @@ of_wrapping = record {
   wrap = λ κs limit protocol extension unit-lent out-lent.
       let unit : List ℕ = unit-lent.now in
       let out : List ℕ = out-lent.now in
-      promised (λ (o : Left Wrapped). wraps o.answer o.lent) (λ a. a.refusal) _
+      promised (λ (o : Left (Result ℕ Refusal)). wraps o.answer o.lent) (λ a. a.refusal) _
       (record { accepted = true; refusal = 0; damage = 0; total = wrapped_total protocol (length unit); output = over out 0 (wrapped protocol extension unit) })
       (λ n. record { accepted = false; refusal = n; damage = 0; total = 0; output = out }) refl refl (λ n. refl)
       (record {

@@ -2,12 +2,11 @@
 use Rattle.std.specs.Prelude.{ℕ, zero, suc, ◌≡◌, List, [], ◌∷◌, ◌++◌, map, Bool, true, false, take, drop, replicate, eqb}
 use Rattle.octets.specs.Basics.{pick}
 use Rattle.frames.specs.declared.bits.BitSettings.{BitSettings}
-use Rattle.bitstream.specs.Bitstream.{begun, frame_with, Wrote, written, reading, leading_octets}
+use Rattle.bitstream.specs.Bitstream.{begun, frame_with, Wrote, written, Reading, reading, leading_octets}
 use Rattle.bitstream.specs.Loss.{BitsSaid}
 use Rattle.bitstream.specs.Statements.{RunRead, run_read}
 use Rattle.bitstream.specs.declared.Reader.{Reader}
 use Rattle.bitstream.specs.declared.Reader.TheVariants.{Fresh, Last}
-use Rattle.bitstream.specs.declared.Reading.{Reading}
 use Rattle.demands.specs.Numbers.Samples.{set_bits, two_octets, two_trailed, no_octets, frame, wrong_headers, lent}
 
 -- with a writer of this count, so many octets of bits, n bits, and a frame of so much room

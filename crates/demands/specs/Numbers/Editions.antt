@@ -6,7 +6,7 @@ use Rattle.frames.specs.Frame.{heading, head, head_rows}
 use Rattle.frames.specs.BitFrame.{bit_heading, bit_head, bit_head_rows}
 use Rattle.frames.specs.declared.Edition.{Edition}
 use Rattle.frames.specs.declared.Edition.TheVariants.{Former, CycleUnused, CycleUsed}
-use Rattle.frames.specs.declared.Heading.{Heading}
+use Rattle.frames.specs.Shape.{Heading}
 use Rattle.multiplexer.specs.Calls.{Call, to_put, to_flush, to_idle, answer}
 use Rattle.extractor.specs.Records.{checked}
 use Rattle.extractor.specs.Answers.{enter_answer}

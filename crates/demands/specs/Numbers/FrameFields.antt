@@ -6,7 +6,7 @@ use Rattle.frames.specs.BitFrame.{bit_frame_length, bit_heading, bit_head, bit_h
 use Rattle.frames.specs.Link.{missing}
 use Rattle.frames.specs.declared.Settings.{Settings}
 use Rattle.frames.specs.declared.bits.BitSettings.{BitSettings}
-use Rattle.frames.specs.declared.Heading.{Heading}
+use Rattle.frames.specs.Shape.{Heading}
 use Rattle.demands.specs.Numbers.Samples.{set, set_bits, small, two_octets, wrong_headers, lent}
 
 -- ---- headers and their eight octets

@@ -1,11 +1,15 @@
 -- Relays: which lists are tables, and where packets go. The destinations of APID 5 are those of source 001's test 9.
-use Rattle.std.specs.Prelude.{ℕ, zero, suc, ◌≡◌, List, [], ◌∷◌, ◌++◌, map, true, false, replicate}
+use Rattle.std.specs.Prelude.{ℕ, zero, suc, ◌≡◌, List, [], ◌∷◌, ◌++◌, map, true, false, replicate, Option, None, Some, Result, Ok, Err}
+use Rattle.octets.specs.declared.refusals.Refusal.{Refusal}
+use Rattle.packets.specs.Damage.{damage_or_0}
+use Rattle.packets.specs.declared.damage.Damage.{Damage}
+use Rattle.packets.specs.declared.damage.Refused.{Refused}
 use Rattle.relay.specs.Table.{empty, is_table, loading}
 use Rattle.relay.specs.Route.{Routing, routing, routes}
 use Rattle.relay.specs.declared.Entry.{Entry}
 use Rattle.relay.specs.declared.Table.{Table}
-use Rattle.relay.specs.declared.Routed.{Routed}
 use Rattle.demands.specs.Numbers.Samples.{lent, ten, seven}
+use Rattle.demands.specs.Numbers.Wrapping.{refused}
 
 abbrev pub entry : ℕ → ℕ → Entry
 entry apid destination = record { apid = apid; destination = destination }
@@ -114,5 +118,7 @@ pub record Ways : Type 0 where
       ∷ []
       ≡ 1 ∷ 10 ∷ 8 ∷ 2 ∷ []
   -- what each case of the answer means, whatever the damage is
-  pub damage_routed : (n d : ℕ) → (routes (Routed.Refused n d) []).damage ≡ d
-  pub cases : map (λ (r : Routed). routes r (7 ∷ [])) (Routed.Refused 8 4 ∷ Routed.Refused 2 0 ∷ Routed.NoPath ∷ Routed.Path 3 ∷ []) ≡ hurt 4 (7 ∷ []) ∷ refuses 2 (7 ∷ []) ∷ nowhere (7 ∷ []) ∷ sends 3 (7 ∷ []) ∷ []
+  pub damage_routed : (r : Refusal) (d : Option Damage) → (routes (Err (refused r d)) []).damage ≡ damage_or_0 d
+  pub cases : map (λ (r : Result (Option ℕ) Refused). routes r (7 ∷ []))
+      (Err (refused Refusal.Packet (Some Damage.OverLimit)) ∷ Err (refused Refusal.Room None) ∷ Ok None ∷ Ok (Some 3) ∷ [])
+      ≡ hurt 4 (7 ∷ []) ∷ refuses 2 (7 ∷ []) ∷ nowhere (7 ∷ []) ∷ sends 3 (7 ∷ []) ∷ []

@@ -1,8 +1,11 @@
 -- Wrapping and unwrapping: refusals, the header that is chosen, and its octets.
-use Rattle.std.specs.Prelude.{ℕ, ◌+◌, ◌≡◌, List, [], ◌∷◌, map, true, false, replicate, take}
+use Rattle.std.specs.Prelude.{ℕ, ◌+◌, ◌≡◌, List, [], ◌∷◌, map, true, false, replicate, take, Option, None, Some, Result, Ok, Err}
+use Rattle.octets.specs.declared.refusals.Refusal.{Refusal}
 use Rattle.wrapping.specs.Wrap.{wrapping}
 use Rattle.packets.specs.Unwrap.{Unwrapping, unwrapping, unit_part}
-use Rattle.packets.specs.declared.unwrapping.Unwrapped.{Unwrapped}
+use Rattle.packets.specs.declared.damage.Damage.{Damage}
+use Rattle.packets.specs.declared.damage.Refused.{Refused}
+use Rattle.packets.specs.declared.unwrapping.Unit as held
 use Rattle.demands.specs.Numbers.Samples.{lent, seven}
 
 pub record Refusals : Type 0 where
@@ -53,6 +56,13 @@ pub record Wrapped : Type 0 where
 abbrev pub says : ℕ → ℕ → ℕ → ℕ → Unwrapping
 says protocol extension start size = record { accepted = true; refusal = 0; damage = 0; protocol = protocol; extension = extension; start = start; size = size }
 
+-- the same as it is answered, and a refusal with what is wrong with the packet's header
+abbrev pub unit : ℕ → ℕ → ℕ → ℕ → Result held.Unit Refused
+unit protocol extension start size = Ok (record { protocol = protocol; extension = extension; start = start; size = size })
+
+abbrev pub refused : Refusal → Option Damage → Refused
+refused refusal damage = record { refusal = refusal; damage = damage }
+
 pub record Units : Type 0 where
   pub each : map (unwrapping 12)
       ((0xE0 ∷ [])
@@ -64,5 +74,6 @@ pub record Units : Type 0 where
       ∷ [])
       ≡ says 0 0 1 0 ∷ says 2 0 2 2 ∷ says 2 0 4 1 ∷ says 6 1 4 1 ∷ says 6 8 4 1 ∷ says 6 15 8 1 ∷ []
   -- the part of the packet that holds the unit; none where it would run past the end, or after a refusal
-  pub part : map (unit_part (0xE9 ∷ 4 ∷ 0xAA ∷ 0xBB ∷ [])) (Unwrapped.Unit 2 0 2 2 ∷ Unwrapped.Unit 2 0 2 1 ∷ Unwrapped.Unit 2 0 2 3 ∷ Unwrapped.Refused 8 0 ∷ Unwrapped.Refused 8 4 ∷ [])
+  pub part : map (unit_part (0xE9 ∷ 4 ∷ 0xAA ∷ 0xBB ∷ []))
+      (unit 2 0 2 2 ∷ unit 2 0 2 1 ∷ unit 2 0 2 3 ∷ Err (refused Refusal.Packet None) ∷ Err (refused Refusal.Packet (Some Damage.OverLimit)) ∷ [])
       ≡ (0xAA ∷ 0xBB ∷ []) ∷ (0xAA ∷ []) ∷ [] ∷ [] ∷ [] ∷ []

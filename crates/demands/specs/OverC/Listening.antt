@@ -4,8 +4,7 @@ use Rattle.octets.specs.Basics.{pick}
 use Rattle.extractor.specs.Extract.{Event, Told, refused, taken}
 use Rattle.extractor.specs.Answers.{EnterNumbers}
 use Rattle.extractor.specs.Calls.{event_at, Finds, goes_on, all_said, Listened}
-use Rattle.extractor.specs.declared.Found.{Found}
-use Rattle.extractor.specs.declared.Found.TheVariants.{Refused, InFrame, InStore, Damaged, Spent}
+use Rattle.extractor.specs.Found.{Found, Refused, InFrame, InStore, Damaged, Spent}
 use Rattle.arrays.specs.Arrays.{told}
 use Rattle.exports.specs.Left.{Left}
 use Rattle.exports.specs.Channel.{settings_of}

@@ -1,8 +1,8 @@
 -- What the public functions of `arrays` promise.
-use Rattle.std.specs.Prelude.{ℕ, Bool, length, get_or}
+use Rattle.std.specs.Prelude.{ℕ, Bool, List, length, get_or}
 use contract.Lifetimes.{Lfts}
 use denote.Ref.{at_last}
-use Rattle.octets.specs.Basics.{fits}
+use Rattle.octets.specs.Basics.{pick, fits}
 use Rattle.arrays.specs.Arrays.{told, kept, handed_on, bit, octet_of, count_of}
 use Rattle.arrays.proofs.flag.Reads as flag_fn
 use Rattle.arrays.proofs.octet_of.Reads as octet_of_fn
@@ -10,8 +10,11 @@ use Rattle.arrays.proofs.count_of.Reads as count_of_fn
 use Rattle.arrays.proofs.entry.Reads as entry_fn
 use Rattle.arrays.proofs.put.Reads as put_fn
 use Rattle.arrays.proofs.keep.Reads as keep_fn
-use Rattle.demands.specs.Promises.{Slice, MutSlice, Left, as_read, Is}
-use Rattle.demands.specs.calls.Octets.{Lays}
+use Rattle.demands.specs.Promises.{Slice, MutSlice, Left, Contract, as_read, Is}
+
+-- a call that writes over a part of its array, or answers 2 and writes nothing where there is no room
+abbrev pub Lays : Contract (Left ℕ) → Bool → List ℕ → Type 0
+Lays c room written = Is c (record { answer = pick room 0 2; lent = written })
 
 -- numbers that have to fit fewer bits, a number of an array, and numbers written over an array's front
 pub record OfArrays : Type 0 where

@@ -1,12 +1,12 @@
 -- What the public functions of `bitstream` promise.
-use Rattle.std.specs.Prelude.{ℕ, ◌≡◌, List, true, false, length}
+use Rattle.std.specs.Prelude.{ℕ, ◌≡◌, List, true, Result, length}
 use contract.Lifetimes.{Lfts}
 use denote.Ref.{at_last}
+use Rattle.octets.specs.declared.refusals.Refusal.{Refusal}
 use Rattle.frames.specs.declared.bits.BitSettings.{BitSettings}
-use Rattle.bitstream.specs.Bitstream.{begun, writer_reachable, write_rows, wrote, written, reader_reachable, read_rows, reading, leading_octets}
+use Rattle.bitstream.specs.Bitstream.{begun, writer_reachable, write_rows, no_writing, writes, wrote, written, reader_reachable, read_rows, no_reading, reads, reading, leading_octets}
 use Rattle.bitstream.specs.Statements.{ReachesAll}
 use Rattle.bitstream.specs.declared.Writer.{Writer}
-use Rattle.bitstream.specs.declared.Written.{Written}
 use Rattle.bitstream.specs.declared.Reader.{Reader}
 use Rattle.bitstream.specs.declared.Reading.{Reading}
 use Rattle.bitstream.proofs.begin.Reads as begin_fn
@@ -20,13 +20,13 @@ pub record OfBitstream : Type 0 where
   pub begin : Is (as_read (begin_fn.Pre tt tt) (λ r. begin_fn.Post tt tt r tt)) begun
   pub write : (κs : Lfts 2) (s : BitSettings) (w : Writer) (bits : Slice) (n : ℕ) (frame : MutSlice)
       → Promised (as_read (write_fn.Pre κs (s, (w, (bits, (n, (frame, tt))))))
-      (λ (o : Left Written). write_fn.Post κs (s, (w, (bits, (n, (frame, tt))))) o.answer (s, (w, (bits, (n, (at_last frame o.lent, tt)))))))
+      (λ (o : Left (Result Writer Refusal)). write_fn.Post κs (s, (w, (bits, (n, (frame, tt))))) o.answer (s, (w, (bits, (n, (at_last frame o.lent, tt)))))))
       (written s w bits.now n frame.now) (write_rows s w n (length bits.now) (length frame.now))
-      (λ o. wrote o.answer o.lent) (λ a. a.said.refusal) (λ r. wrote (record { refusal = r; writer = w }) frame.now)
+      (λ o. wrote (writes w o.answer) o.lent) (λ a. a.said.refusal) (λ r. wrote (no_writing r w) frame.now)
   pub read : (κs : Lfts 1) (s : BitSettings) (x : Reader) (f : Slice)
-      → Promised (as_read (read_fn.Pre κs (s, (x, (f, tt)))) (λ (r : Reading). read_fn.Post κs (s, (x, (f, tt))) r (s, (x, (f, tt)))))
+      → Promised (as_read (read_fn.Pre κs (s, (x, (f, tt)))) (λ (r : Result Reading Refusal). read_fn.Post κs (s, (x, (f, tt))) r (s, (x, (f, tt)))))
       (reading s x f.now) (read_rows s x f.now)
-      (λ r. r) (λ a. a.refusal) (λ n. record { refusal = n; count = 0; replay = 0; bits = 0; lost = false; reader = x })
+      (reads x) (λ a. a.refusal) (λ n. no_reading n x)
   -- a part that is handed back lies somewhere: an outcome is its octets
   pub leading_octets : (κs : Lfts 1) (s : BitSettings) (n : ℕ) (f part : Slice)
       → Is (as_read (leading_octets_fn.Pre κs (s, (n, (f, tt)))) (λ r. leading_octets_fn.Post κs (s, (n, (f, tt))) (lying part r) (s, (n, (f, tt)))))

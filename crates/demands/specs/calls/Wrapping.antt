@@ -1,16 +1,16 @@
 -- What the public functions of `wrapping` promise.
-use Rattle.std.specs.Prelude.{ℕ, ◌-◌, false, length}
+use Rattle.std.specs.Prelude.{ℕ, ◌-◌, false, length, Result}
 use contract.Lifetimes.{Lfts}
 use denote.Ref.{at_last}
 use Rattle.octets.specs.Basics.{over}
+use Rattle.octets.specs.declared.refusals.Refusal.{Refusal}
 use Rattle.wrapping.specs.Idle.{idle_packet, idle_packet_rows}
 use Rattle.wrapping.specs.Wrap.{wrapped_total, wrap_rows, wrapping, wraps}
-use Rattle.wrapping.specs.declared.Wrapped.{Wrapped}
 use Rattle.wrapping.proofs.wrap.Reads as wrap_fn
 use Rattle.wrapping.proofs.write_idle.Reads as write_idle_fn
 use Rattle.demands.specs.Promises.{Slice, MutSlice, Left, Contract, as_read, Promised, Writes}
 
-abbrev pub wrap_contract : (κs : Lfts 2) (limit protocol extension : ℕ) (unit : Slice) (out : MutSlice) → Contract (Left Wrapped)
+abbrev pub wrap_contract : (κs : Lfts 2) (limit protocol extension : ℕ) (unit : Slice) (out : MutSlice) → Contract (Left (Result ℕ Refusal))
 wrap_contract κs limit protocol extension unit out =
     as_read (wrap_fn.Pre κs (limit, (protocol, (extension, (unit, (out, tt))))))
     (λ o. wrap_fn.Post κs (limit, (protocol, (extension, (unit, (out, tt))))) o.answer (limit, (protocol, (extension, (unit, (at_last out o.lent, tt))))))
