@@ -1,14 +1,15 @@
 -- A record's octets stand first among those that are not yet taken.
 -- Assumes nothing.
-use Rattle.std.proofs.Common.{◌≡◌, ◌+◌, ◌-◌, ◌<◌, ◌≤◌, ◌∙◌, ◌++◌, ◌∷◌, List, ℕ, suc, sym, ap, length, take, drop, get_or, subst, arith, take-take, length-take, length-take-le, length-drop, drop-cons, add-one}
+use Rattle.std.proofs.Common.{◌≡◌, ◌+◌, ◌-◌, ◌<◌, ◌≤◌, ◌∙◌, ◌++◌, ◌∷◌, List, ℕ, suc, sym, ap, length, take, drop, get_or, arith, take-take, length-take, length-take-le, length-drop, drop-cons, add-one}
 use Rattle.std.proofs.Math.Seq.{take-add, drop-drop, get_or-take, get_or-drop}
 use native.Mathlib.Nat.{add-zero}
 use mathlib.Core.Path.{subst⁻¹}
+use mathlib.Core.Logic.{◌⊎◌, inl, inr}
 use Rattle.std.specs.Prelude.{slice_range}
 use Rattle.frames.specs.declared.Settings.{Settings}
 use Rattle.runfile.specs.Steps.{body_length, taken}
 use Rattle.runfile.specs.declared.Progress.{Progress}
-use Rattle.runfile.specs.declared.Progress.TheVariants.{Start, Running, Ended, Bad}
+use Rattle.runfile.specs.declared.Progress.TheVariants.{Running, Ended}
 use Rattle.runfile.proofs.Bounds.{most_body, body_most}
 use Rattle.runfile.proofs.Ends.{left, taken_left}
 use Rattle.aosread.specs.Input.{StandFirst}
@@ -64,23 +65,12 @@ record_there before mid buf from to end kind e f some first h k room =
 pub short_body : (r : Progress) (kind n : ℕ) → n ≡ body_length r kind → n ≤ most_body
 short_body r kind n e = rw e (body_most r kind)
 
-some_left : (r : Progress) (kind : ℕ) (body : List ℕ) → 0 < left (taken r kind body) → 0 < left r
-unfolding left taken
-some_left Start kind body h = omega arith
-some_left (Running s n) kind body h = omega arith
-some_left (Ended n) kind body h = omega arith
-some_left (Bad n) kind body h = h
-
-pub running_left : (r : Progress) (s : Settings) (n : ℕ) → r ≡ Running s n → 0 < left r
+underway_left : (r : Progress) → ((s : Settings) × (n : ℕ) × r ≡ Running s n) ⊎ ((n : ℕ) × r ≡ Ended n) → 0 < left r
 unfolding left
-running_left r s n e = rw e (omega arith)
+underway_left r (inl (s, n, e)) = rw e (omega arith)
+underway_left r (inr (n, e)) = rw e (omega arith)
 
-pub ended_left : (r : Progress) (n : ℕ) → r ≡ Ended n → 0 < left r
-unfolding left
-ended_left r n e = rw e (omega arith)
-
--- a record that is not bad leaves fewer to take
-pub next_less : (r next : Progress) (kind : ℕ) (body : List ℕ) → next ≡ taken r kind body → 0 < left next → left next < left r
-next_less r next kind body here more =
-    subst⁻¹ (λ (n : Progress). left n < left r) here
-    (taken_left r kind body (some_left r kind body (subst (λ (n : Progress). 0 < left n) here more)))
+-- a record of a run that goes on leaves fewer to take
+pub next_less : (r next : Progress) (kind : ℕ) (body : List ℕ) → next ≡ taken r kind body
+    → ((s : Settings) × (n : ℕ) × r ≡ Running s n) ⊎ ((n : ℕ) × r ≡ Ended n) → left next < left r
+next_less r next kind body here on = subst⁻¹ (λ (n : Progress). left n < left r) here (taken_left r kind body (underway_left r on))

@@ -1,6 +1,6 @@
 -- Standard input through a buffer.
-use Rattle.std.specs.Prelude.{◌≡◌, ◌+◌, List, [], ◌∷◌, ◌++◌, ℕ, min, length, take, Option, Some, None}
-use Rattle.runfile.specs.Steps.{body_length, taken}
+use Rattle.std.specs.Prelude.{◌≡◌, ◌+◌, List, [], ◌∷◌, ◌++◌, ℕ, min, length, take, Result, Ok, Err}
+use Rattle.runfile.specs.Steps.{body_length, taken, closed}
 use Rattle.runfile.specs.declared.Progress.{Progress}
 use Rattle.aosread.specs.Held.{Held}
 
@@ -15,7 +15,7 @@ pub record IsNext (r next : Progress) (before : List ℕ) (after : Held) : Type 
   pub reads : next ≡ taken r kind after.body
   pub all_there : StandFirst before (kind ∷ (after.body ++ after.unread))
 
--- how far the run is read after the record that follows; or that none follows, as no octet was left
-abbrev pub Follows : Progress → Option Progress → List ℕ → Held → Type 0
-Follows r None before after = StandFirst before []
-Follows r (Some next) before after = IsNext r next before after
+-- how far the run is read after the record that follows; or, as no octet was left, after its end
+abbrev pub Follows : Progress → Result Progress Progress → List ℕ → Held → Type 0
+Follows r (Err end) before after = (end ≡ closed r) × StandFirst before []
+Follows r (Ok next) before after = IsNext r next before after

@@ -9,7 +9,8 @@ use std::marker::Model;
 // The octets that the buffer holds.
 const BUFFER: usize = 65536;
 
-// A clause sees the body of the last record, and the octets that are read and not yet taken.
+// A clause sees the body of the last record, and the octets that are read and not yet taken. (There is no heap: they stand in an array,
+// with places in it.)
 #[derive(Drop)]
 pub(crate) struct Reader<'a, R> {
     rt: &'a R,
@@ -67,7 +68,7 @@ impl<'a, R: Input + Eprint> Reader<'a, R> {
         &self.octets[self.body..self.from]
     }
 
-    // Reads on until n octets are there that are not yet taken, or the input has ended.
+    // Reads on until n octets are there that are not yet taken, or the input has ended. A read gives as many as it has, and not n.
     fn wait_for(&mut self, n: usize)
         ensures { StandFirst self.old.unread self.new.unread }
     {
@@ -87,19 +88,19 @@ impl<'a, R: Input + Eprint> Reader<'a, R> {
         }
     }
 
-    // How far the run is read after the next record, whose body is held then; none where the input has ended.
-    pub(crate) fn next(&mut self, progress: Progress) -> Option<Progress>
+    // How far the run is read after the next record, whose body is held then; or, as the error, after the input's end, where none follows.
+    pub(crate) fn next(&mut self, progress: Progress) -> Result<Progress, Progress>
         ensures { Follows progress result self.old.unread self.new }
     {
         self.wait_for(1);
         if self.from == self.to {
-            return None;
+            return Err(runfile::close(progress));
         }
         let kind = self.octets[self.from];
         let size = runfile::body_length(progress, kind);
         self.wait_for(1 + size);
         self.body = self.from + 1;
         self.from = self.to.min(self.body + size);
-        Some(runfile::take(progress, kind, &self.octets[self.body..self.from]))
+        Ok(runfile::take(progress, kind, &self.octets[self.body..self.from]))
     }
 }

@@ -20,22 +20,21 @@ fn follow<R: Input + Print + Eprint>(
     out: &mut Output<'_, R>,
 ) {
     let mut progress = setup;
-    while let Some(next) = input.next(progress) {
-        progress = next;
-        match progress {
-            Progress::Running { .. } => run.take(input.body(), out),
-            Progress::Ended { .. } => {}
-            Progress::Bad { .. } | Progress::Start => break,
+    while let Progress::Running { .. } | Progress::Ended { .. } = progress {
+        progress = match input.next(progress) {
+            Ok(next) => next,
+            Err(closed) => return run.conclude(closed, out),
+        };
+        if let Progress::Running { .. } = progress {
+            run.take(input.body(), out);
         }
     }
-    run.conclude(runfile::close(progress), out);
+    run.conclude(progress, out);
 }
 
 // The whole run; what waits at the end has the last line.
 fn read_run<R: Input + Print + Eprint>(input: &mut Reader<'_, R>, out: &mut Output<'_, R>) {
-    let first = input
-        .next(Progress::Start)
-        .unwrap_or_else(|| runfile::close(Progress::Start));
+    let first = input.next(Progress::Start).unwrap_or_else(|closed| closed);
     match first {
         Progress::Running { settings, .. } => {
             out.print(&lines::setup(settings));

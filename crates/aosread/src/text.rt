@@ -4,7 +4,7 @@ ghost use Rattle.aosread.specs.Lines.{decimal as digits_of, named as named_text,
 
 use std::marker::Model;
 
-// A clause sees the octets that are put together so far, and no others.
+// A clause sees the octets that are put together so far, and no others. (There is no heap: they stand in an array, with their number.)
 #[derive(Drop)]
 pub(crate) struct Text<const N: usize> {
     octets: [u8; N],

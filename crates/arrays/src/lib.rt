@@ -39,7 +39,7 @@ pub fn entry(numbers: &[u64], at: usize) -> u64
     numbers.get(at).copied().unwrap_or(0)
 }
 
-// Writes numbers over the front of an array, and answers 0; or nothing, and answers 2, where they do not fit.
+// Writes numbers over the front of an array, and answers 0; or nothing, and answers 2, where they do not fit: C is told refusals as numbers.
 pub fn put(array: &mut [u64], numbers: &[u64]) -> u64
     ensures { Lays (fits array.old 0 (length numbers.now)) (told array.old numbers.now) result array.new }
 {

@@ -82,7 +82,8 @@ fn mixed(k: u32, bits: u8, fill: u8) -> u8
     words::placed(bits as u64, rest, fill as u64) as u8
 }
 
-// Lays n bits over the zone of a frame, and fill to its end; where they fit, neither is refused.
+// Lays n bits over the zone of a frame, and fill to its end; where they fit, neither is refused. A slice has whole octets, so that the number
+// of bits stands beside it.
 fn lay_bits(s: BitSettings, bits: &[u8], n: usize, frame: &mut [u8])
     requires { Fits s n bits.now frame.old }
     ensures { frame.new ≡ over frame.old (zone_at s.link) (zone_with s n bits.now) }

@@ -50,7 +50,7 @@ pub(crate) fn link_of(spacecraft: u64, channel: u64, trailer: u64, edition: u64)
     }
 }
 
-// The settings that an array states; none where it is short.
+// The settings that an array states; none where it is short. (C's array of settings for bits has other entries.)
 #[tactic(auto, unfolding(crate::specs::Channel::settings_of, crate::specs::Channel::link_of))]
 pub(crate) fn settings_of(numbers: &[u64]) -> Option<Settings>
     ensures { Stated 7 settings_of numbers.now result }

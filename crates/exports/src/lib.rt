@@ -1,5 +1,5 @@
 // The library for C and Rust, on numbers and octet slices: `include/itzahuemo.h` says what each number stands for, and `exports_c` hands these
-// functions to C.
+// functions to C. Neither these numbers nor the library's types are of this crate, so that it has functions between them and no `From`.
 #![tactic(auto)]
 
 mod bits;

@@ -92,6 +92,7 @@ fn flush_said(done: Result<Done, Refusal>) -> [u64; 2]
     }
 }
 
+// C has a name for each of the calls, which differ in what they are lent and in what they answer.
 #[tactic(auto, unfolding(crate::specs::Mux::mux_leaves, crate::specs::Channel::short, multiplexer::specs::Calls::answers))]
 pub fn itz_mux_put(
     settings: &[u64],

@@ -10,7 +10,7 @@ ghost use Rattle.extractor.specs.Records.{enter_rows, last_count, held_in, is_in
 ghost use Rattle.extractor.specs.Answers.{entering_says, entered_as};
 ghost use Rattle.extractor.specs.Walks.{Says, Named, damage_by, reason_for};
 
-use crate::held::{held_in, last_in, length_across};
+use crate::held::{Held, held_in, last_in};
 use crate::{Entering, Entry, Extractor, Reason};
 use frames::{Heading, IDLE_ZONE, NO_START, Settings, ZONE_AT};
 use packets::Seen;
@@ -47,52 +47,46 @@ fn compared(agrees: bool) -> Option<Reason>
     (!agrees).then_some(Reason::PointerDiffers)
 }
 
-// Why the octets held are dropped, by their header, which may end in the frame's zone, and its pointer.
-#[tactic(auto, unfolding(crate::specs::Extract::reason_by, crate::specs::Extract::agreed, crate::specs::Extract::agreed_look, packets::specs::Header::seen, packets::specs::Packet::damage_in))]
-fn pointer_reason(
-    s: Settings,
-    stated: Seen,
-    held: &[u8],
-    pointer: usize,
-    zone: &[u8],
-) -> Option<Reason>
-    requires limit_least { 1 ≤ s.limit }
-    requires stated_value { seen stated ≡ look s.limit held.now }
-    ensures { Named result (reason_by pointer (agreed s held.now zone.now)) (damage_by s (reason_by pointer (agreed s held.now zone.now)) held.now zone.now) }
-{
-    if held.is_empty() {
-        return compared((pointer == 0) | (pointer == IDLE_ZONE));
-    }
-    match length_across(s.limit, stated, held, zone) {
-        Seen::Damaged(damage) => Some(Reason::HeaderDamaged(damage)),
-        Seen::More => compared(pointer == NO_START),
-        Seen::Whole { total } => {
-            compared(pointer == next_start(s.zone, total.saturating_sub(held.len())))
+impl Held<'_> {
+    // Why they are dropped, by their header, which may end in the frame's zone, and its pointer.
+    #[tactic(auto, unfolding(crate::specs::Extract::reason_by, crate::specs::Extract::agreed, crate::specs::Extract::agreed_look, packets::specs::Header::seen, packets::specs::Packet::damage_in))]
+    fn pointer_reason(&self, s: Settings, pointer: usize, zone: &[u8]) -> Option<Reason>
+        requires { self.now.limit ≡ s.limit }
+        ensures { Named result (reason_by pointer (agreed s self.now.octets.now zone.now)) (damage_by s (reason_by pointer (agreed s self.now.octets.now zone.now)) self.now.octets.now zone.now) }
+    {
+        if self.octets.is_empty() {
+            return compared((pointer == 0) | (pointer == IDLE_ZONE));
+        }
+        match self.across(zone) {
+            Seen::Damaged(damage) => Some(Reason::HeaderDamaged(damage)),
+            Seen::More => compared(pointer == NO_START),
+            Seen::Whole { total } => {
+                let end = total.saturating_sub(self.octets.len());
+                compared(pointer == next_start(s.zone, end))
+            }
         }
     }
-}
 
-// Why they are dropped: the frames that are missing come first, and out of step none are held.
-fn reason_of(
-    s: Settings,
-    x: Extractor,
-    lost: u32,
-    stated: Seen,
-    held: &[u8],
-    pointer: usize,
-    zone: &[u8],
-) -> Option<Reason>
-    requires limit_least { 1 ≤ s.limit }
-    requires stated_value { seen stated ≡ look s.limit held.now }
-    ensures { Named result (reason_for s x lost held.now pointer zone.now) (damage_by s (reason_for s x lost held.now pointer zone.now) held.now zone.now) }
-{
-    if lost != 0 {
-        return Some(Reason::FramesMissing);
+    // The same where frames are missing, which comes first, or packets are only looked for.
+    fn reason(
+        &self,
+        s: Settings,
+        x: Extractor,
+        lost: u32,
+        pointer: usize,
+        zone: &[u8],
+    ) -> Option<Reason>
+        requires { self.now.limit ≡ s.limit }
+        ensures { Named result (reason_for s x lost self.now.octets.now pointer zone.now) (damage_by s (reason_for s x lost self.now.octets.now pointer zone.now) self.now.octets.now zone.now) }
+    {
+        if lost != 0 {
+            return Some(Reason::FramesMissing);
+        }
+        if !is_in_step(x) {
+            return None;
+        }
+        self.pointer_reason(s, pointer, zone)
     }
-    if !is_in_step(x) {
-        return None;
-    }
-    pointer_reason(s, stated, held, pointer, zone)
 }
 
 // Where the walk sets out: in step with so many octets held, or out of step.
@@ -139,9 +133,13 @@ pub(crate) fn taken(
     let count = heading.count;
     let pointer = heading.pointer as usize;
     let lost = lost_since(s, x, count);
-    let held = &store[..held_in(x)];
+    let held = Held {
+        limit: s.limit,
+        octets: &store[..held_in(x)],
+        stated,
+    };
     let zone = &frame[ZONE_AT..ZONE_AT + s.zone];
-    let reason = reason_of(s, x, lost, stated, held, pointer, zone);
+    let reason = held.reason(s, x, lost, pointer, zone);
     let kept = Entry {
         count,
         replay: heading.replay,
@@ -150,7 +148,7 @@ pub(crate) fn taken(
         reason,
     };
     if reason.is_none() {
-        let in_step = is_in_step(x).then_some(held.len());
+        let in_step = is_in_step(x).then_some(held.octets.len());
         return Entering {
             entry: kept,
             next: set_off(s, count, pointer, in_step),
@@ -158,7 +156,7 @@ pub(crate) fn taken(
     }
     Entering {
         entry: Entry {
-            dropped: held.len(),
+            dropped: held.octets.len(),
             ..kept
         },
         next: set_off(s, count, pointer, None),

@@ -70,7 +70,8 @@ pub(crate) fn at_hand(n: usize, length: Seen) -> Seen
     }
 }
 
-// What the octets held say of their packet's length, as many as the store has. No more than their header is read.
+// What the octets held say of their packet's length, as many as the store has. No more than their header is read. It goes beside the store
+// and in no struct with it, as a step writes to the store that it speaks of.
 pub(crate) fn stated(s: Settings, x: Extractor, store: &[u8]) -> Seen
     ensures { Says s store.now (held_in x) result }
 {
@@ -130,14 +131,24 @@ fn length_in_both(limit: usize, held: &[u8], more: &[u8]) -> Seen
     packets::read_length(limit, &front[..to])
 }
 
-// What the octets held, which say this of their packet's length, say of it with those that follow them: their header may end there.
-pub(crate) fn length_across(limit: usize, stated: Seen, held: &[u8], more: &[u8]) -> Seen
-    requires limit_least { 1 ≤ limit }
-    requires stated_value { seen stated ≡ look limit held.now }
-    ensures { seen result ≡ look limit (held.now ++ more.now) }
-{
-    match stated {
-        Seen::More => length_in_both(limit, held, more),
-        _ => stated,
+// The octets held, with the greatest length of a packet and what they say of theirs.
+#[derive(Drop)]
+pub(crate) struct Held<'a> {
+    pub(crate) limit: usize,
+    pub(crate) octets: &'a [u8],
+    pub(crate) stated: Seen,
+    ghost limit_least: { 1 ≤ limit },
+    ghost stated_value: { seen stated ≡ look limit octets.now },
+}
+
+impl Held<'_> {
+    // What they say of it with those that follow them: their header may end there.
+    pub(crate) fn across(&self, more: &[u8]) -> Seen
+        ensures { seen result ≡ look self.now.limit (self.now.octets.now ++ more.now) }
+    {
+        match self.stated {
+            Seen::More => length_in_both(self.limit, self.octets, more),
+            stated => stated,
+        }
     }
 }

@@ -6,7 +6,7 @@ ghost use Rattle.extractor.specs.Answers.{move_says};
 ghost use Rattle.extractor.specs.Calls.{through};
 ghost use Rattle.extractor.specs.Walks.{Says, Walks, at_rest};
 
-use crate::held::{at_hand, length_across};
+use crate::held::{Held, at_hand};
 use crate::{Extractor, Found, Move};
 use frames::{Settings, ZONE_AT};
 use packets::{Damage, Seen};
@@ -78,8 +78,12 @@ fn complete(
     ensures { move_says result store.new ≡ step s frame.now store.old (Extractor.Walking last held 0) }
 {
     let zone = &frame[ZONE_AT..ZONE_AT + s.zone];
-    let length = length_across(s.limit, stated, &store[..held], zone);
-    match at_hand(held + s.zone, length) {
+    let begun = Held {
+        limit: s.limit,
+        octets: &store[..held],
+        stated,
+    };
+    match at_hand(held + s.zone, begun.across(zone)) {
         Seen::Damaged(damage) => abandoned(last, damage),
         Seen::More => keep(last, held, store, zone),
         Seen::Whole { total } => {
@@ -106,7 +110,8 @@ fn at_rest(x: Extractor) -> Extractor
     }
 }
 
-// One step of a call that is not refused.
+// One step of a call that is not refused, without a call of its own, which would copy the settings at every step.
+#[inline(always)]
 pub(crate) fn moved(s: Settings, x: Extractor, stated: Seen, store: &mut [u8], frame: &[u8]) -> Move
     requires frame_value { first (step_rows s x store.old frame.now) ≡ 0 }
     requires says { Says s store.old (held_in x) stated }

@@ -50,7 +50,7 @@ pub struct Heading {
     pub pointer: u16,
 }
 
-// The pointer of an idle zone, and that of a zone in which no packet starts.
+// The pointer of an idle zone, and that of a zone in which no packet starts: numbers of the field whose others are places in the zone.
 pub const IDLE_ZONE: usize = 2046;
 
 pub const NO_START: usize = 2047;

@@ -23,7 +23,7 @@ pub enum Judge {
     Faulty { tally: u32, at: u32 },
 }
 
-// The verdict on a run.
+// The verdict on a run. A fault is an answer and no error: what `?` hands on are the refusals.
 #[derive(Clone, Copy, Debug, PartialEq, Eq)]
 pub enum Verdict {
     Pass,

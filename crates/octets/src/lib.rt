@@ -68,7 +68,8 @@ pub fn put(buf: &mut [u8], at: usize, k: usize, n: u64) -> Result<(), Refusal>
     Ok(())
 }
 
-// Copies src[from..to] over buf from `at`; or nothing, where src has no such part or it does not fit.
+// Copies src[from..to] over buf from `at`; or nothing, where src has no such part or it does not fit. The part is named by its ends, as one
+// that src does not have is refused here.
 pub fn lay(buf: &mut [u8], at: usize, src: &[u8], from: usize, to: usize) -> Result<(), Refusal>
     ensures { Lays (part_fits buf.old at from to src.now) (laid_part buf.old at from to src.now) (refusal_of result) buf.new }
 {
@@ -98,13 +99,14 @@ pub fn fill(buf: &mut [u8], at: usize, n: usize, octet: u8) -> Result<(), Refusa
     Ok(())
 }
 
+// The smaller of two numbers: `usize::min`, under the name that the theorem OfOctets of demands has for it.
 pub fn least(a: usize, b: usize) -> usize
     ensures { result ≡ min a b }
 {
     a.min(b)
 }
 
-// What is left of a whole when so many are taken; 0 where more are.
+// What is left of a whole when so many are taken; 0 where more are. OfOctets names it too.
 pub fn rest(whole: usize, taken: usize) -> usize
     ensures { result ≡ whole - taken }
 {

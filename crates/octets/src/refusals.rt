@@ -35,7 +35,7 @@ pub enum Refusal {
     Trailer,
 }
 
-// The numbers of the table, for the calls that answer them.
+// The numbers of the table of refusals, which the calls from C answer.
 pub const SETTING: u8 = 1;
 
 pub const ROOM: u8 = 2;

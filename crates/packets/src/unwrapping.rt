@@ -72,7 +72,7 @@ pub fn unwrap(limit: usize, p: &[u8]) -> Result<Unit, Refused>
         protocol: protocol(p),
         extension: extension(p),
         start,
-        size: octets::rest(p.len(), start),
+        size: p.len().saturating_sub(start),
     })
 }
 

@@ -30,7 +30,7 @@ const NO_ENTRY: Entry = Entry {
     destination: 0,
 };
 
-// A relay table: its entries are the first `count`.
+// A relay table: its entries are the first `count`. There is no heap, so that the array has room for all that a table may have.
 #[derive(Clone, Copy, Debug, PartialEq, Eq)]
 pub struct Table {
     pub count: usize,

@@ -137,7 +137,7 @@ impl Word {
         checks(self.number / CHECKS) == self.number % CHECKS
     }
 
-    // The value at a power of the root.
+    // The value at a power of the root. The symbols are digits of a number, so that their places are counted.
     fn value(self, j: usize) -> u64
         requires { j < 10 }
         ensures { result ≡ value 10 j (λ k. symbol k self.number) }

@@ -66,7 +66,7 @@ const MOST_FLAGS: u8 = 3;
 
 const MOST_COUNT: u16 = 16383;
 
-// A field of eight bits at most.
+// A field of eight bits at most. (It and `wide` stay two: a generic one by TryFrom would have an answer for what cannot come.)
 #[tactic(auto, using(words::proofs::Fields::field_within))]
 fn narrow(word: u64, at: Place) -> u8
     requires { at.width ≤ 8 }

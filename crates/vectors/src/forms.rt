@@ -167,7 +167,7 @@ impl<'a> Line<'a> {
 }
 
 // The number that a text begins with, 0 where it begins with none, and what stands behind it: it has seven digits at most, and any zeros
-// before them.
+// before them. (`parse` takes a whole text, and tells nothing of what stands behind a number.)
 fn number(text: &[u8]) -> (usize, &[u8]) {
     let mut number = 0;
     for (at, sign) in text.iter().enumerate() {

@@ -3,7 +3,7 @@
 // A line writes so many octets at most.
 pub(crate) const MOST: usize = 4096;
 
-// The value of a digit.
+// The value of a digit. (`to_digit` would take small letters too.)
 fn value(sign: u8) -> Option<u8> {
     match sign {
         b'0'..=b'9' => Some(sign - b'0'),

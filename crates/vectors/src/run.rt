@@ -207,7 +207,7 @@ impl<'a> Ends<'a> {
         }
     }
 
-    // One call of the multiplexer.
+    // One call of the multiplexer. The calls are data of the table of forms; here they are done.
     fn call(&mut self, c: Call, p: &[u8]) -> Result<Done, Refused> {
         let s = self.settings;
         let m = self.mux;

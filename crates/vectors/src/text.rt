@@ -2,7 +2,7 @@
 use std::io;
 use std::io::Read;
 
-// Reads until the room is full or the input ends: what it put at the front.
+// Reads until the room is full or the input ends, as a read gives a part: what it put at the front.
 pub(crate) fn read<'a>(input: &mut impl Read, room: &'a mut [u8]) -> io::Result<&'a [u8]> {
     let mut done = 0;
     while done < room.len() {

@@ -1,13 +1,9 @@
--- `follow` meets its contract: each record that is not the last leaves fewer to take.
-use Rattle.aosread.proofs.Records.{running_left, ended_left, next_less}
+-- `follow` meets its contract: each record of a run that goes on leaves fewer to take.
+use Rattle.aosread.proofs.Records.{next_less}
 use Rattle.aosread.proofs.follow.Goals as goal
 
-pub loop-next-smaller-in-Running : goal.loop-next-smaller-in-Running
-loop-next-smaller-in-Running g c =
-    let x = c.in-Some.ensures in
-    next_less c.loop-next.progress c.in-Some.next x.kind _ x.reads (running_left _ _ _ c.in-Running.is)
+pub loop-progress-smaller-in-Running-progress : goal.loop-progress-smaller-in-Running-progress
+loop-progress-smaller-in-Running-progress g c = let x = c.in-Ok.ensures in next_less _ _ x.kind _ x.reads c.in-Running.is
 
-pub loop-next-smaller : goal.loop-next-smaller
-loop-next-smaller g c =
-    let x = c.in-Some.ensures in
-    next_less c.loop-next.progress c.in-Some.next x.kind _ x.reads (ended_left _ _ c.in-Ended.is)
+pub loop-progress-smaller : goal.loop-progress-smaller
+loop-progress-smaller g c = let x = c.in-Ok.ensures in next_less _ _ x.kind _ x.reads c.in-Running.is

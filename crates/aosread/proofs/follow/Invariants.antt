@@ -1,6 +1,6 @@
--- `follow`: each record that is not the last leaves fewer to take.
+-- `follow`: each record of a run that goes on leaves fewer to take.
 use Rattle.runfile.proofs.Ends.{left}
 use Rattle.aosread.proofs.follow.Given as goal
 
-abbrev pub decreases-loop-next : goal.decreases-loop-next
-decreases-loop-next g l = left l.progress
+abbrev pub decreases-loop-progress : goal.decreases-loop-progress
+decreases-loop-progress g l = left l.progress

@@ -16,8 +16,8 @@ overflow_add-zone c = omega (arith, plain (arriving_walks (arrives _ _ _ _ c.req
 pub slice_bounds-zone-end : goal.slice_bounds-zone-end
 slice_bounds-zone-end c = omega (arith, plain (arriving_walks (arrives _ _ _ _ c.requires.frame_value)))
 
-pub reason_of-reason-requires : goal.reason_of-reason-requires
-reason_of-reason-requires c =
+pub invariant_of-held : goal.invariant_of-held
+invariant_of-held c =
     let a = c.args in
     let w = arriving_walks (arrives _ _ _ _ c.requires.frame_value) in
     record {
@@ -29,17 +29,17 @@ pub returns-then-is_none : goal.returns-then-is_none
 returns-then-is_none c =
     let a = c.args in
     let came = arrives _ _ _ _ c.requires.frame_value in
-    let named = rw (c.held_in.ensures, ← zone_left a.s 0 a.frame.now) at c.reason_of-reason.ensures in
+    let named = rw (c.held_in.ensures, ← zone_left a.s 0 a.frame.now) at c.reason-reason.ensures in
     let held = length-take-le _ a.store.now (arriving_walks came).holds in
-    taken_kept came a.heading c.requires.heads c.reason_of-reason.result c.lost_since-lost.ensures named
-    (none_is_0 c.reason_of-reason.result (c.is_none.ensures ∙ ap not c.if-is_none.true))
+    taken_kept came a.heading c.requires.heads c.reason-reason.result c.lost_since-lost.ensures named
+    (none_is_0 c.reason-reason.result (c.is_none.ensures ∙ ap not c.if-is_none.true))
     (cc (held, set_off_is a.s a.heading.count a.heading.pointer a.x))
 
 pub returns : goal.returns
 returns c =
     let a = c.args in
     let came = arrives _ _ _ _ c.requires.frame_value in
-    let named = rw (c.held_in.ensures, ← zone_left a.s 0 a.frame.now) at c.reason_of-reason.ensures in
+    let named = rw (c.held_in.ensures, ← zone_left a.s 0 a.frame.now) at c.reason-reason.ensures in
     let held = length-take-le _ a.store.now (arriving_walks came).holds in
-    taken_lost came a.heading c.requires.heads c.reason_of-reason.result c.lost_since-lost.ensures named
-    (some_is_not_0 c.reason_of-reason.result (c.is_none.ensures ∙ ap not c.if-is_none.false)) (cc (held)) c.set_off-2.ensures
+    taken_lost came a.heading c.requires.heads c.reason-reason.result c.lost_since-lost.ensures named
+    (some_is_not_0 c.reason-reason.result (c.is_none.ensures ∙ ap not c.if-is_none.false)) (cc (held)) c.set_off-2.ensures
