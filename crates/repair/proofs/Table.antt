@@ -9,11 +9,11 @@ use lib.ListN.{length, get_or}
 use lib.Dec.{eqb, ltb}
 use Rattle.std.specs.Option.{unwrap_or}
 use Rattle.std.specs.List.{position, position_or_len}
-use lib.Bits.{bit_xor}
+use lib.Bits.{bit_xor, xor_zero_l}
 use borrow.Author.Tests.{eqb-true, ltb-true, ne_eqb}
 use Rattle.octets.specs.Basics.{or}
 use Rattle.repair.specs.Field.{times_root, power, product_from, product}
-use Rattle.repair.specs.Values.{Exponent}
+use Rattle.repair.specs.Values.{total, Exponent}
 use Rattle.octets.proofs.Tests.{test}
 use Rattle.octets.proofs.Every.{below, at, at2}
 use Rattle.repair.proofs.Laws.{low_l, product_assoc, product_one, product_comm, power-add, power_lt, round}
@@ -71,6 +71,11 @@ low_digits e a b c d =
     let two : e % 16 / 2 ^ 2 % 2 ≡ e / 2 ^ 2 % 2 = omega arith in
     let three : e % 16 / 2 ^ 3 % 2 ≡ e / 2 ^ 3 % 2 = omega arith in
     rw (zero, one, two, three)
+
+-- the sum of the digits is that of four
+pub four_digits : (e : ℕ) (t : ℕ → ℕ) → total 4 (λ i. e / 2 ^ i % 2 * t i) ≡ digits e (t 0) (t 1) (t 2) (t 3)
+unfolding total
+four_digits e t = rw (xor_zero_l (e / 2 ^ 0 % 2 * t 0)) refl
 
 -- each times a power
 pub by_digits : (e n : ℕ) → digits e (power n) (power (n + 1)) (power (n + 2)) (power (n + 3)) ≡ product e (power n)

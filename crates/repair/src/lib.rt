@@ -1,12 +1,12 @@
 // Header error control: the check symbols of a header, and a header read with up to two of its ten symbols repaired.
 #![tactic(auto)]
 
-ghost use Rattle.std.specs.Prelude.{◌≡◌, ◌+◌, ◌*◌, ◌/◌, ◌%◌, ◌^◌, ◌<◌, eqb};
+ghost use Rattle.std.specs.Prelude.{ℕ, ◌≡◌, ◌+◌, ◌*◌, ◌/◌, ◌%◌, ◌^◌, ◌<◌, eqb};
 ghost use Rattle.octets.specs.Basics.{number_at};
 ghost use Rattle.repair.specs.Field.{power, product};
 ghost use Rattle.repair.specs.Code.{symbol, remainder, four, checks, written, answer_of, reading};
 ghost use Rattle.repair.specs.Header.{six_of, header_checks, header_reading, own_octets, checked, own_reading};
-ghost use Rattle.repair.specs.Values.{generator_times, multiple, brought_down, value, Exponent, Amount, Candidate};
+ghost use Rattle.repair.specs.Values.{total, generator_times, multiple, brought_down, value, Exponent, Amount, Candidate};
 
 use words::Place;
 
@@ -45,15 +45,24 @@ fn digit_times(e: u64, i: u32, term: u64) -> u64
     if (e >> i) % 2 == 0 { 0 } else { term }
 }
 
+// The sum of an element's four digits, each times its own term.
+fn digits_sum<F: Fn(usize) -> u64>(e: u64, term: F) -> u64
+    requires { (i : ℕ) → i < 4 → F.pre term i }
+    ensures { (t : ℕ → ℕ) → ((i r : ℕ) → i < 4 → F.post term i r → r ≡ t i) → result ≡ total 4 (λ i. e / 2 ^ i % 2 * t i) }
+{
+    let mut sum = 0;
+    for i in 0..4 {
+        sum ^= digit_times(e, i as u32, term(i));
+    }
+    sum
+}
+
 // An element times a power of the root: a digit stands for a power too.
 fn times_power(e: u64, n: usize) -> u64
     requires { n < 256 }
     ensures { result ≡ product e (power n) }
 {
-    digit_times(e, 0, power(n))
-        ^ digit_times(e, 1, power(n + 1))
-        ^ digit_times(e, 2, power(n + 2))
-        ^ digit_times(e, 3, power(n + 3))
+    digits_sum(e, |i| power(n + i))
 }
 
 // ---- writing
@@ -72,10 +81,7 @@ fn multiple(e: u64) -> u64
     requires { e < 16 }
     ensures { result ≡ multiple e }
 {
-    digit_times(e, 0, generator_times(0))
-        ^ digit_times(e, 1, generator_times(1))
-        ^ digit_times(e, 2, generator_times(2))
-        ^ digit_times(e, 3, generator_times(3))
+    digits_sum(e, generator_times)
 }
 
 // One step of the division by the generator.

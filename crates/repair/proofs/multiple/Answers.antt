@@ -1,17 +1,9 @@
 -- The sum of its digits, each times the generator.
+use Rattle.std.proofs.Common.{◌∙◌}
+use Rattle.repair.specs.Values.{generator_times}
+use Rattle.repair.proofs.Table.{four_digits}
 use Rattle.repair.proofs.Division.{multiple_digits}
 use Rattle.repair.proofs.multiple.Goals as goal
 
 pub returns : goal.returns
-returns c =
-    rw (
-      c.digit_times-4.ensures,
-      c.digit_times-3.ensures,
-      c.digit_times-2.ensures,
-      c.digit_times.ensures,
-      c.generator_times-4.ensures,
-      c.generator_times-3.ensures,
-      c.generator_times-2.ensures,
-      c.generator_times.ensures,
-    )
-    (multiple_digits c.args.e c.requires)
+returns c = c.digits_sum.ensures generator_times (λ i r h p. p) ∙ four_digits c.args.e generator_times ∙ multiple_digits c.args.e c.requires

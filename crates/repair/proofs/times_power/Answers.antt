@@ -1,17 +1,12 @@
 -- The sum of its digits, each times that power.
-use Rattle.repair.proofs.Table.{by_digits}
+use Rattle.std.proofs.Common.{ℕ, ◌+◌, ◌∙◌, ap, add-zero, rules}
+use Rattle.repair.specs.Field.{power}
+use Rattle.repair.proofs.Table.{digits, by_digits, four_digits}
 use Rattle.repair.proofs.times_power.Goals as goal
 
 pub returns : goal.returns
 returns c =
-    rw (
-      c.digit_times-4.ensures,
-      c.digit_times-3.ensures,
-      c.digit_times-2.ensures,
-      c.digit_times.ensures,
-      c.power-4.ensures.power,
-      c.power-3.ensures.power,
-      c.power-2.ensures.power,
-      c.power.ensures.power,
-    )
-    (by_digits c.args.e c.args.n)
+    let e = c.args.e in
+    let n = c.args.n in
+    c.digits_sum.ensures (λ i. power (n + i)) (λ i r h p. search rules) ∙ four_digits e (λ i. power (n + i))
+    ∙ ap (λ (k : ℕ). digits e (power k) (power (n + 1)) (power (n + 2)) (power (n + 3))) (add-zero n) ∙ by_digits e n
