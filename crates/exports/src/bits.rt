@@ -19,6 +19,11 @@ const READER_ENTRIES: usize = 3;
 
 const BITS_ENTRIES: usize = 6;
 
+// The kinds of a reader's record.
+const FRESH: u64 = 0;
+
+const LAST: u64 = 1;
+
 // The settings that an array states; none where it is short.
 #[tactic(auto, unfolding(crate::specs::Bits::bit_settings_of, crate::specs::Channel::link_of))]
 fn bit_settings_of(numbers: &[u64]) -> Option<BitSettings>
@@ -77,8 +82,8 @@ fn reader_with(kind: u64, last: u32, waiting: u64) -> Reader
     ensures { result ≡ reader_with kind last waiting }
 {
     match (kind, last, waiting) {
-        (0, 0, 0) => Reader::Fresh,
-        (1, _, 0 | 1) => Reader::Last {
+        (FRESH, 0, 0) => Reader::Fresh,
+        (LAST, _, 0 | 1) => Reader::Last {
             count: last,
             waiting: waiting == 1,
         },
@@ -100,8 +105,8 @@ fn reader_numbers(x: Reader) -> [u64; READER_ENTRIES]
     ensures { result ≡ reader_numbers x }
 {
     match x {
-        Reader::Fresh => [0; READER_ENTRIES],
-        Reader::Last { count, waiting } => [1, count as u64, u64::from(waiting)],
+        Reader::Fresh => [FRESH, 0, 0],
+        Reader::Last { count, waiting } => [LAST, count as u64, u64::from(waiting)],
     }
 }
 

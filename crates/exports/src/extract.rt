@@ -21,6 +21,17 @@ const STEP_ENTRIES: usize = 5;
 
 const SHOWN_ENTRIES: usize = 3;
 
+// The kinds of record.
+const FRESH: u64 = 0;
+
+const ASTRAY: u64 = 1;
+
+const IN_STEP: u64 = 2;
+
+const WALKING: u64 = 3;
+
+const LEAVING: u64 = 4;
+
 // A frame is entered.
 const ENTERED: u64 = 1;
 
@@ -47,11 +58,11 @@ fn extractor_with(kind: u64, last: u32, held: usize, at: usize) -> Extractor
     ensures { result ≡ extractor_with kind last held at }
 {
     match (kind, last, held, at) {
-        (0, 0, 0, 0) => Extractor::Fresh,
-        (1, _, 0, 0) => Extractor::Astray { last },
-        (2, _, _, 0) => Extractor::InStep { last, held },
-        (3, _, _, _) => Extractor::Walking { last, held, at },
-        (4, _, 0, 0) => Extractor::Leaving { last },
+        (FRESH, 0, 0, 0) => Extractor::Fresh,
+        (ASTRAY, _, 0, 0) => Extractor::Astray { last },
+        (IN_STEP, _, _, 0) => Extractor::InStep { last, held },
+        (WALKING, _, _, _) => Extractor::Walking { last, held, at },
+        (LEAVING, _, 0, 0) => Extractor::Leaving { last },
         _ => UNREACHED,
     }
 }
@@ -70,11 +81,11 @@ fn extractor_numbers(x: Extractor) -> [u64; EXTRACTOR_ENTRIES]
     ensures { result ≡ extractor_numbers x }
 {
     match x {
-        Extractor::Fresh => [0; EXTRACTOR_ENTRIES],
-        Extractor::Astray { last } => [1, last as u64, 0, 0],
-        Extractor::InStep { last, held } => [2, last as u64, held as u64, 0],
-        Extractor::Walking { last, held, at } => [3, last as u64, held as u64, at as u64],
-        Extractor::Leaving { last } => [4, last as u64, 0, 0],
+        Extractor::Fresh => [FRESH, 0, 0, 0],
+        Extractor::Astray { last } => [ASTRAY, last as u64, 0, 0],
+        Extractor::InStep { last, held } => [IN_STEP, last as u64, held as u64, 0],
+        Extractor::Walking { last, held, at } => [WALKING, last as u64, held as u64, at as u64],
+        Extractor::Leaving { last } => [LEAVING, last as u64, 0, 0],
     }
 }
 
@@ -82,10 +93,7 @@ fn extractor_numbers(x: Extractor) -> [u64; EXTRACTOR_ENTRIES]
 fn reason_number(reason: Option<Reason>) -> u64
     ensures { result ≡ reason_number reason }
 {
-    match reason {
-        None => 0,
-        Some(reason) => reason.number() as u64,
-    }
+    reason.map_or(0, |reason| reason.number() as u64)
 }
 
 // The number of what is wrong with their header; 0 where they are dropped for something else.

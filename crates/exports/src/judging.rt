@@ -18,6 +18,14 @@ const JUDGE_ENTRIES: usize = 4;
 
 const VERDICT_ENTRIES: usize = 2;
 
+// The kinds of record.
+const OPEN: u64 = 0;
+
+const SOUND: u64 = 1;
+
+const FAULTY: u64 = 2;
+
+// The verdicts.
 const PASS: u64 = 1;
 
 const FAULT: u64 = 2;
@@ -31,9 +39,9 @@ fn judge_with(kind: u64, tally: u32, last: u32, held: usize) -> Judge
     ensures { result ≡ judge_with kind tally last held }
 {
     match (kind, tally, last, held) {
-        (0, 0, 0, 0) => Judge::Open,
-        (1, _, _, _) => Judge::Sound { tally, last, held },
-        (2, _, _, 0) => Judge::Faulty { tally, at: last },
+        (OPEN, 0, 0, 0) => Judge::Open,
+        (SOUND, _, _, _) => Judge::Sound { tally, last, held },
+        (FAULTY, _, _, 0) => Judge::Faulty { tally, at: last },
         _ => UNJUDGED,
     }
 }
@@ -52,9 +60,9 @@ fn judge_numbers(j: Judge) -> [u64; JUDGE_ENTRIES]
     ensures { result ≡ judge_numbers j }
 {
     match j {
-        Judge::Open => [0; JUDGE_ENTRIES],
-        Judge::Sound { tally, last, held } => [1, tally as u64, last as u64, held as u64],
-        Judge::Faulty { tally, at } => [2, tally as u64, at as u64, 0],
+        Judge::Open => [OPEN, 0, 0, 0],
+        Judge::Sound { tally, last, held } => [SOUND, tally as u64, last as u64, held as u64],
+        Judge::Faulty { tally, at } => [FAULTY, tally as u64, at as u64, 0],
     }
 }
 

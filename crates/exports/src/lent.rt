@@ -23,10 +23,7 @@ pub(crate) fn number(refusal: Refusal) -> u64
 pub(crate) fn damage_number(damage: Option<Damage>) -> u64
     ensures { result ≡ damage_or_0 damage }
 {
-    match damage {
-        None => 0,
-        Some(damage) => damage.number() as u64,
-    }
+    damage.map_or(0, |damage| damage.number() as u64)
 }
 
 // Writes an answer whose numbers stand behind its refusal, and hands the refusal on.

@@ -95,27 +95,27 @@ pub fn itz_read_header(limit: u64, front: &[u8], answer: &mut [u64]) -> u64
     )
 }
 
-// What a packet is; 0 where the limit is refused.
-fn formed_number(refusal: u64, formed: bool) -> u64
-    ensures { result ≡ pick (eqb refusal 0) (pick {A = ℕ} formed 1 2) 0 }
+// What a packet is.
+fn formed_number(formed: bool) -> u64
+    ensures { result ≡ pick {A = ℕ} formed 1 2 }
 {
-    if refusal != 0 {
-        return 0;
-    }
     if formed { FORMED } else { NOT_FORMED }
 }
 
-#[tactic(auto, unfolding(crate::specs::Packet::formed_leaves, crate::specs::Packet::formed_numbers, packets::specs::Header::reading, packets::specs::Header::told))]
+#[tactic(auto, using(octets::proofs::ByNumber::refused_not_0), unfolding(crate::specs::Packet::formed_leaves, crate::specs::Packet::formed_numbers, packets::specs::Header::answer, packets::specs::Header::reading, packets::specs::Header::told))]
 pub fn itz_well_formed(limit: u64, packet: &[u8], answer: &mut [u64]) -> u64
     ensures { left result [] [] answer.new ≡ formed_leaves limit packet.now answer.old }
 {
     if answer.len() < FORMED_ENTRIES {
         return ROOM;
     }
-    let refusal = header_said(packets::read_header(limit as usize, packet))[0];
+    if let Err(refusal) = packets::read_header(limit as usize, packet) {
+        put(answer, &[0]);
+        return number(refusal);
+    }
     let formed = packets::well_formed(limit as usize, packet);
-    put(answer, &[formed_number(refusal, formed)]);
-    refusal
+    put(answer, &[formed_number(formed)]);
+    0
 }
 
 // The refusal of a wrapping, and the numbers behind it.
