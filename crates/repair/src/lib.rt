@@ -265,6 +265,7 @@ const HEADER_OCTETS: usize = 6;
 const CHECK_OCTETS: usize = 2;
 
 // How many octets a frame's own header has.
+#[tactic(auto, unfolding(crate::specs::Header::own_octets))]
 pub fn own_octets(on: bool) -> usize
     ensures { result ≡ own_octets on }
 {
@@ -276,6 +277,7 @@ pub fn own_octets(on: bool) -> usize
 }
 
 // A frame's own header, repaired where that is on, and else as it stands; none where it is beyond repair.
+#[tactic(auto, unfolding(crate::specs::Header::own_reading))]
 pub fn read_own(on: bool, frame: &[u8]) -> Option<u64>
     ensures { answer_of result ≡ own_reading on (number_at 6 0 frame.now) (number_at 2 6 frame.now) }
 {
@@ -288,6 +290,7 @@ pub fn read_own(on: bool, frame: &[u8]) -> Option<u64>
 }
 
 // Writes what stands behind a header that is at the front of buf; nothing where it does not fit.
+#[tactic(auto, unfolding(crate::specs::Header::checked))]
 pub fn put_checks(on: bool, buf: &mut [u8], head: u64)
     ensures { buf.new ≡ checked on buf.old head }
 {
