@@ -6,8 +6,8 @@ use mathlib.Core.Bool.{Bool, true, false}
 use Prim.Native.Nat.{ℕ, ◌+◌, ◌-◌, ◌<◌}
 use native.Mathlib.Omega.{arith}
 use lib.Dec.{eqb, leb}
-use borrow.Author.Tests.{eqb-true}
-use Rattle.std.specs.Prelude.{Ok}
+use borrow.Author.Tests.{eqb-true, not-false}
+use Rattle.std.specs.Prelude.{Ok, not}
 use Rattle.octets.specs.Basics.{and, first}
 use Rattle.octets.proofs.Choices.{apart}
 use Rattle.octets.proofs.Tests.{test}
@@ -18,7 +18,6 @@ use Rattle.extractor.specs.Calls.{goes_on}
 use Rattle.extractor.specs.declared.Extractor.{Extractor}
 use Rattle.extractor.specs.declared.Extractor.TheVariants.{Fresh, Astray, InStep, Walking, Leaving}
 use Rattle.extractor.specs.Found.{Found, Refused, InFrame, InStore, Damaged, Spent}
-use Rattle.extractor.specs.declared.Found as declared
 use Rattle.extractor.specs.declared.Move.{Move}
 use Rattle.extractor.proofs.Turns.{Turn, leave, keep, break, give, turn}
 use Rattle.extractor.proofs.Unrefused.{moves}
@@ -53,12 +52,6 @@ goes_on_told f store (InStore size false) = refl
 goes_on_told f store (Damaged d) = refl
 goes_on_told f store Spent = refl
 
-found_goes_on : (a : declared.Found) → (a ≡ declared.Found.Spent → ⊥) → goes_on (as_found a) ≡ true
-found_goes_on (declared.Found.InFrame start size idle) more = refl
-found_goes_on (declared.Found.InStore size idle) more = refl
-found_goes_on (declared.Found.Damaged d) more = refl
-found_goes_on declared.Found.Spent more = absurd (more refl)
-
 module _ (s : Settings) (x : Extractor) (store f : List ℕ) where
   call_less : goes_on (step_call s x store f).found ≡ true → left s (step_call s x store f).next < left s x
   unfolding step_call
@@ -68,12 +61,12 @@ module _ (s : Settings) (x : Extractor) (store f : List ℕ) where
       rw t (turn_less s f store (turn s f store m.ranged m.framed m.room x m.reached m.underway) (rw t at on)))
       (λ t. let off : false ≡ true = rw t at on in apart (cc))
 
-  -- a step that does not find the frame spent leaves fewer
-  pub step_less : (m : Move) (st : List ℕ) → step_says x (Ok m) f st ≡ step_answer s x store f → (m.found ≡ declared.Found.Spent → ⊥)
+  -- a step that is not the last leaves fewer
+  pub step_less : (m : Move) (st : List ℕ) → step_says x (Ok m) f st ≡ step_answer s x store f → not (goes_on (as_found m.found)) ≡ false
       → left s m.next < left s x
   unfolding step_answer
   step_less m st told more =
       let w : Stepped = step_call s x store f in
       let going : goes_on w.found ≡ true =
-      goes_on_told f w.store w.found ∙ sym (ap (λ (n : StepSaid). finds n.answer.outcome) told) ∙ sym (goes_on_told f st (as_found m.found)) ∙ found_goes_on m.found more in
+      goes_on_told f w.store w.found ∙ sym (ap (λ (n : StepSaid). finds n.answer.outcome) told) ∙ sym (goes_on_told f st (as_found m.found)) ∙ not-false _ more in
       subst⁻¹ (λ (y : Extractor). left s y < left s x) (ap (λ (n : StepSaid). n.next) told) (call_less going)

@@ -1,14 +1,29 @@
 // A run after its setup: each frame is heard and judged.
+ghost use Rattle.std.specs.Prelude.{◌≡◌, not};
+ghost use Rattle.extractor.specs.Answers.{answered};
+ghost use Rattle.extractor.specs.Calls.{goes_on};
+
 use crate::lines;
 use crate::lines::Line;
 use crate::output::Output;
 use extractor::{Extractor, Found, Move};
 use frames::Settings;
 use judge::Judge;
+use octets::Refusal;
 use runfile::Progress;
 
 // The octets of a store: no setup has a longer packet.
 pub(crate) const STORE: usize = 4096;
+
+// Whether no step follows an answer.
+fn is_last(answer: Result<Move, Refusal>) -> bool
+    ensures { result ≡ not (goes_on (answered answer)) }
+{
+    match answer {
+        Ok(step) => matches!(step.found, Found::Spent),
+        Err(_) => true,
+    }
+}
 
 // Both records after a frame, each with its store. The stores are lent: beside arrays the records do not stay in registers.
 #[derive(Drop)]
@@ -59,7 +74,7 @@ impl<'a> Run<'a> {
     fn spend<R: Print + Eprint>(&mut self, frame: &[u8], out: &mut Output<'_, R>) {
         while let Ok(step) = extractor::step(self.settings, self.extractor, self.held, frame) {
             self.extractor = step.next;
-            if matches!(step.found, Found::Spent) {
+            if is_last(Ok(step)) {
                 return;
             }
             out.print(&self.line(step, frame));
@@ -68,7 +83,7 @@ impl<'a> Run<'a> {
 
     // The line of what a step found: a packet, or damage.
     fn line(&self, step: Move, frame: &[u8]) -> Line {
-        let packet = extractor::show(frame, self.held, Ok(step));
+        let packet = extractor::show(frame, self.held, Ok(step.found));
         let header = packets::read_header(self.settings.limit, packet);
         lines::step(step.found, header)
     }

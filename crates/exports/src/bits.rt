@@ -4,20 +4,32 @@ ghost use Rattle.bitstream.specs.Bitstream.{reads};
 ghost use Rattle.bitstream.specs.declared.Reader.{Reader};
 ghost use Rattle.exports.specs.Left.{left};
 ghost use Rattle.exports.specs.Stated.{Stated};
-ghost use Rattle.exports.specs.Bits.{bit_settings_of, writer_of, write_leaves, reader_with, reader_of, reader_numbers, read_numbers, read_leaves};
+ghost use Rattle.exports.specs.Bits.{bits_short, bit_settings_of, writer_of, write_leaves, reader_with, reader_of, reader_numbers, read_numbers, read_leaves};
 
 use crate::channel::{link_of, zone_for};
-use crate::lent::{ROOM, leave, number};
-use arrays::{MOST_COUNT, count_of, octet_of, put};
+use crate::lent::{ROOM, leave, number, refusal_number};
+use arrays::{MOST_COUNT, count_of, flag, keep, octet_of};
 use bitstream::{Reader, Reading, Writer};
 use frames::ZONE_AT;
 use frames::bits::BitSettings;
 use octets::Refusal;
 
-// The entries of a reader's record, and of its answer.
+// The entries of the settings, of a writer's and of a reader's record, and of what reading answers.
+const BIT_SETTINGS_ENTRIES: usize = 6;
+
+const WRITER_ENTRIES: usize = 1;
+
 const READER_ENTRIES: usize = 3;
 
 const BITS_ENTRIES: usize = 6;
+
+// Whether an array is short: of settings, or of a record or an answer that has so many numbers. No entry is looked at before.
+#[tactic(auto, unfolding(crate::specs::Bits::bits_short))]
+fn bits_short(settings: usize, record: usize, kept: usize, answer: usize, room: usize) -> bool
+    ensures { result ≡ bits_short settings «record» kept answer room }
+{
+    settings < BIT_SETTINGS_ENTRIES || record < kept || answer < room
+}
 
 // The kinds of a reader's record.
 const FRESH: u64 = 0;
@@ -42,7 +54,7 @@ fn bit_settings_of(numbers: &[u64]) -> Option<BitSettings>
 fn writer_of(numbers: &[u64]) -> Option<Writer>
     ensures { Stated 1 writer_of numbers.now result }
 {
-    let [count] = *numbers.first_chunk::<1>()?;
+    let [count] = *numbers.first_chunk::<WRITER_ENTRIES>()?;
     Some(Writer {
         count: count_of(count),
     })
@@ -58,16 +70,15 @@ pub fn itz_bits_write(
 ) -> u64
     ensures { left result «record».new frame.new [] ≡ write_leaves settings.now «record».old bits.now n frame.old }
 {
+    if bits_short(settings.len(), record.len(), WRITER_ENTRIES, 0, 0) {
+        return ROOM;
+    }
     let (Some(settings), Some(writer)) = (bit_settings_of(settings), writer_of(record)) else {
         return ROOM;
     };
-    match bitstream::write(settings, writer, bits, n as usize, frame) {
-        Err(refusal) => number(refusal),
-        Ok(next) => {
-            put(record, &[next.count as u64]);
-            0
-        }
-    }
+    let written = bitstream::write(settings, writer, bits, n as usize, frame);
+    let next = written.unwrap_or(writer);
+    keep(record, refusal_number(written), &[next.count as u64])
 }
 
 // A record that no call reaches.
@@ -106,7 +117,7 @@ fn reader_numbers(x: Reader) -> [u64; READER_ENTRIES]
 {
     match x {
         Reader::Fresh => [FRESH, 0, 0],
-        Reader::Last { count, waiting } => [LAST, count as u64, u64::from(waiting)],
+        Reader::Last { count, waiting } => [LAST, count as u64, flag(waiting)],
     }
 }
 
@@ -121,7 +132,7 @@ fn read_said(s: BitSettings, frame: &[u8], read: Result<Reading, Refusal>) -> [u
             0,
             reading.count as u64,
             reading.replay as u64,
-            u64::from(reading.lost),
+            flag(reading.lost),
             reading.bits as u64,
             ZONE_AT as u64,
             bitstream::leading_octets(s, reading.bits, frame).len() as u64,
@@ -133,12 +144,18 @@ fn read_said(s: BitSettings, frame: &[u8], read: Result<Reading, Refusal>) -> [u
 pub fn itz_bits_read(settings: &[u64], record: &mut [u64], frame: &[u8], answer: &mut [u64]) -> u64
     ensures { left result «record».new [] answer.new ≡ read_leaves settings.now «record».old frame.now answer.old }
 {
+    if bits_short(
+        settings.len(),
+        record.len(),
+        READER_ENTRIES,
+        answer.len(),
+        BITS_ENTRIES,
+    ) {
+        return ROOM;
+    }
     let (Some(settings), Some(reader)) = (bit_settings_of(settings), reader_of(record)) else {
         return ROOM;
     };
-    if answer.len() < BITS_ENTRIES {
-        return ROOM;
-    }
     let read = bitstream::read(settings, reader, frame);
     let next = read.map_or(reader, |reading| reading.reader);
     leave(

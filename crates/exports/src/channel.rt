@@ -1,10 +1,23 @@
 // The settings of a packet channel as numbers.
 ghost use Rattle.std.specs.Prelude.{◌≡◌, [], ◌∷◌};
 ghost use Rattle.exports.specs.Stated.{Stated};
-ghost use Rattle.exports.specs.Channel.{edition_of, zone_for, link_of, settings_of};
+ghost use Rattle.exports.specs.Channel.{short, edition_of, zone_for, link_of, settings_of};
 
 use arrays::{count_of, octet_of};
 use frames::{Edition, Link, Settings};
+
+// The entries of the settings, and of the records of multiplexer, extractor and judge.
+const SETTINGS_ENTRIES: usize = 7;
+
+pub(crate) const RECORD_ENTRIES: usize = 4;
+
+// Whether an array is short: of settings, of a record, or of an answer that has so many numbers. No entry is looked at before.
+#[tactic(auto, unfolding(crate::specs::Channel::short))]
+pub(crate) fn is_short(settings: usize, record: usize, answer: usize, room: usize) -> bool
+    ensures { result ≡ short settings «record» answer room }
+{
+    settings < SETTINGS_ENTRIES || record < RECORD_ENTRIES || answer < room
+}
 
 // The numbers of the editions; that of 732.0-B-3 with usage 1 is the last.
 const FORMER: u64 = 0;

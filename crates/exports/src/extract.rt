@@ -6,15 +6,13 @@ ghost use Rattle.exports.specs.Left.{left};
 ghost use Rattle.exports.specs.Stated.{Stated};
 ghost use Rattle.exports.specs.Extract.{extractor_with, extractor_of, extractor_numbers, enter_numbers, enter_leaves, step_numbers, step_leaves, part_numbers, show_numbers, show_leaves};
 
-use crate::channel::settings_of;
+use crate::channel::{RECORD_ENTRIES, is_short, settings_of};
 use crate::lent::{ROOM, leave, number};
 use arrays::{MOST_COUNT, count_of, put};
 use extractor::{Entering, Extractor, Found, Move, Reason};
 use octets::{Refusal, within};
 
-// The entries of the record, and of each answer.
-const EXTRACTOR_ENTRIES: usize = 4;
-
+// The entries of each answer.
 const ENTERED_ENTRIES: usize = 7;
 
 const STEP_ENTRIES: usize = 5;
@@ -71,13 +69,13 @@ fn extractor_with(kind: u64, last: u32, held: usize, at: usize) -> Extractor
 fn extractor_of(numbers: &[u64]) -> Option<Extractor>
     ensures { Stated 4 extractor_of numbers.now result }
 {
-    let [kind, last, held, at] = *numbers.first_chunk::<EXTRACTOR_ENTRIES>()?;
+    let [kind, last, held, at] = *numbers.first_chunk::<RECORD_ENTRIES>()?;
     Some(extractor_with(kind, count_of(last), held as usize, at as usize))
 }
 
 // A record's numbers, as its array has them.
 #[tactic(auto, unfolding(crate::specs::Extract::extractor_numbers))]
-fn extractor_numbers(x: Extractor) -> [u64; EXTRACTOR_ENTRIES]
+fn extractor_numbers(x: Extractor) -> [u64; RECORD_ENTRIES]
     ensures { result ≡ extractor_numbers x }
 {
     match x {
@@ -136,12 +134,12 @@ pub fn itz_extractor_enter(
 ) -> u64
     ensures { left result «record».new [] answer.new ≡ enter_leaves settings.now «record».old store.now frame.now answer.old }
 {
+    if is_short(settings.len(), record.len(), answer.len(), ENTERED_ENTRIES) {
+        return ROOM;
+    }
     let (Some(settings), Some(x)) = (settings_of(settings), extractor_of(record)) else {
         return ROOM;
     };
-    if answer.len() < ENTERED_ENTRIES {
-        return ROOM;
-    }
     let entered = extractor::enter(settings, x, store, frame);
     let next = entered.map_or(x, |entering| entering.next);
     leave(
@@ -194,12 +192,12 @@ pub fn itz_extractor_step(
 ) -> u64
     ensures { left result «record».new store.new answer.new ≡ step_leaves settings.now «record».old store.old frame.now answer.old }
 {
+    if is_short(settings.len(), record.len(), answer.len(), STEP_ENTRIES) {
+        return ROOM;
+    }
     let (Some(settings), Some(x)) = (settings_of(settings), extractor_of(record)) else {
         return ROOM;
     };
-    if answer.len() < STEP_ENTRIES {
-        return ROOM;
-    }
     let step = extractor::step(settings, x, store, frame);
     let next = step.map_or(x, |step| step.next);
     leave(record, &extractor_numbers(next), answer, &step_said(step))

@@ -7,15 +7,13 @@ ghost use Rattle.exports.specs.Left.{left};
 ghost use Rattle.exports.specs.Stated.{Stated};
 ghost use Rattle.exports.specs.Judging.{judge_with, judge_of, judge_numbers, judge_leaves, tape_leaves, close_numbers, close_leaves};
 
-use crate::channel::settings_of;
-use crate::lent::{ROOM, number, tell};
-use arrays::{count_of, put};
+use crate::channel::{RECORD_ENTRIES, is_short, settings_of};
+use crate::lent::{ROOM, number, refusal_number, tell};
+use arrays::{count_of, keep};
 use judge::{Judge, Verdict};
 use octets::Refusal;
 
-// The entries of the record, and of the answer.
-const JUDGE_ENTRIES: usize = 4;
-
+// The entries of the answer.
 const VERDICT_ENTRIES: usize = 2;
 
 // The kinds of record.
@@ -50,13 +48,13 @@ fn judge_with(kind: u64, tally: u32, last: u32, held: usize) -> Judge
 fn judge_of(numbers: &[u64]) -> Option<Judge>
     ensures { Stated 4 judge_of numbers.now result }
 {
-    let [kind, tally, last, held] = *numbers.first_chunk::<JUDGE_ENTRIES>()?;
+    let [kind, tally, last, held] = *numbers.first_chunk::<RECORD_ENTRIES>()?;
     Some(judge_with(kind, count_of(tally), count_of(last), held as usize))
 }
 
 // A record's numbers, as its array has them.
 #[tactic(auto, unfolding(crate::specs::Judging::judge_numbers))]
-fn judge_numbers(j: Judge) -> [u64; JUDGE_ENTRIES]
+fn judge_numbers(j: Judge) -> [u64; RECORD_ENTRIES]
     ensures { result ≡ judge_numbers j }
 {
     match j {
@@ -66,27 +64,27 @@ fn judge_numbers(j: Judge) -> [u64; JUDGE_ENTRIES]
     }
 }
 
-// Writes the record that a call leaves, or hands its refusal on.
-fn keep_judged(record: &mut [u64], judged: Result<Judge, Refusal>) -> u64
-    ensures { (j : Judge) (store : List ℕ) → (result ≡ (judge_says j judged store).refusal) × («record».new ≡ kept result «record».old (judge_numbers (judge_says j judged store).next)) }
+// Writes the record that a call given j leaves, or hands its refusal on.
+fn keep_judged(record: &mut [u64], j: Judge, judged: Result<Judge, Refusal>) -> u64
+    ensures { (store : List ℕ) → (result ≡ (judge_says j judged store).refusal) × («record».new ≡ kept result «record».old (judge_numbers (judge_says j judged store).next)) }
 {
-    match judged {
-        Err(refusal) => number(refusal),
-        Ok(next) => {
-            put(record, &judge_numbers(next));
-            0
-        }
-    }
+    let next = judged.unwrap_or(j);
+    let refusal = refusal_number(judged);
+    keep(record, refusal, &judge_numbers(next));
+    refusal
 }
 
 #[tactic(auto, unfolding(crate::specs::Judging::judging_leaves, crate::specs::Channel::short))]
 pub fn itz_judge_frame(settings: &[u64], record: &mut [u64], store: &mut [u8], frame: &[u8]) -> u64
     ensures { left result «record».new store.new [] ≡ judge_leaves settings.now «record».old store.old frame.now }
 {
+    if is_short(settings.len(), record.len(), 0, 0) {
+        return ROOM;
+    }
     let (Some(settings), Some(j)) = (settings_of(settings), judge_of(record)) else {
         return ROOM;
     };
-    keep_judged(record, judge::frame(settings, j, store, frame))
+    keep_judged(record, j, judge::frame(settings, j, store, frame))
 }
 
 // As with a frame: each body is shorter than a contract over its call would be.
@@ -94,10 +92,13 @@ pub fn itz_judge_frame(settings: &[u64], record: &mut [u64], store: &mut [u8], f
 pub fn itz_judge_tape(settings: &[u64], record: &mut [u64], store: &mut [u8], tape: &[u8]) -> u64
     ensures { left result «record».new store.new [] ≡ tape_leaves settings.now «record».old store.old tape.now }
 {
+    if is_short(settings.len(), record.len(), 0, 0) {
+        return ROOM;
+    }
     let (Some(settings), Some(j)) = (settings_of(settings), judge_of(record)) else {
         return ROOM;
     };
-    keep_judged(record, judge::tape(settings, j, store, tape))
+    keep_judged(record, j, judge::tape(settings, j, store, tape))
 }
 
 // An answer's refusal, and the numbers behind it.
@@ -116,11 +117,11 @@ fn closed_said(closed: Result<Verdict, Refusal>) -> [u64; 3]
 pub fn itz_judge_close(settings: &[u64], record: &[u64], store: &[u8], answer: &mut [u64]) -> u64
     ensures { left result [] [] answer.new ≡ close_leaves settings.now «record».now store.now answer.old }
 {
+    if is_short(settings.len(), record.len(), answer.len(), VERDICT_ENTRIES) {
+        return ROOM;
+    }
     let (Some(settings), Some(j)) = (settings_of(settings), judge_of(record)) else {
         return ROOM;
     };
-    if answer.len() < VERDICT_ENTRIES {
-        return ROOM;
-    }
     tell(answer, &closed_said(judge::close(settings, j, store)))
 }

@@ -1,6 +1,6 @@
 // What a call leaves in the arrays that were lent to it.
 ghost use Rattle.std.specs.Prelude.{◌≡◌, ◌≤◌, [], length, get_or, drop};
-ghost use Rattle.octets.specs.Refusals.{number_of};
+ghost use Rattle.octets.specs.Refusals.{number_of, refusal_of};
 ghost use Rattle.packets.specs.Damage.{damage_or_0};
 ghost use Rattle.arrays.specs.Arrays.{told, kept};
 ghost use Rattle.exports.specs.Left.{left};
@@ -17,6 +17,16 @@ pub(crate) fn number(refusal: Refusal) -> u64
     ensures { result ≡ number_of refusal }
 {
     refusal.number() as u64
+}
+
+// The number of what a call is refused for; 0 where it is not.
+pub(crate) fn refusal_number<T: Copy>(answer: Result<T, Refusal>) -> u64
+    ensures { result ≡ refusal_of answer }
+{
+    match answer {
+        Err(refusal) => number(refusal),
+        Ok(_) => 0,
+    }
 }
 
 // The number of what is wrong with a header; 0 where nothing is.

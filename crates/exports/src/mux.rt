@@ -6,16 +6,14 @@ ghost use Rattle.exports.specs.Left.{left};
 ghost use Rattle.exports.specs.Stated.{Stated};
 ghost use Rattle.exports.specs.Mux.{mux_of, mux_numbers, begin_leaves, put_numbers, flush_numbers, no_numbers, mux_leaves};
 
-use crate::channel::settings_of;
-use crate::lent::{ROOM, damage_number, leave, number};
-use arrays::{count_of, put};
+use crate::channel::{RECORD_ENTRIES, is_short, settings_of};
+use crate::lent::{ROOM, damage_number, leave, number, refusal_number};
+use arrays::{count_of, flag, keep, put};
 use multiplexer::{Done, Mux};
 use octets::Refusal;
 use packets::Refused;
 
-// The entries of the record, and of each answer.
-const MUX_ENTRIES: usize = 4;
-
+// The entries of each answer.
 const PUT_ENTRIES: usize = 3;
 
 const FLUSH_ENTRIES: usize = 1;
@@ -30,7 +28,7 @@ const FRAME: u64 = 2;
 fn mux_of(numbers: &[u64]) -> Option<Mux>
     ensures { Stated 4 mux_of numbers.now result }
 {
-    let [count, filled, first, taken] = *numbers.first_chunk::<MUX_ENTRIES>()?;
+    let [count, filled, first, taken] = *numbers.first_chunk::<RECORD_ENTRIES>()?;
     Some(Mux {
         count: count_of(count),
         filled: filled as usize,
@@ -41,7 +39,7 @@ fn mux_of(numbers: &[u64]) -> Option<Mux>
 
 // A record's numbers, as its array has them.
 #[tactic(auto, unfolding(crate::specs::Mux::mux_numbers))]
-fn mux_numbers(m: Mux) -> [u64; MUX_ENTRIES]
+fn mux_numbers(m: Mux) -> [u64; RECORD_ENTRIES]
     ensures { result ≡ mux_numbers m }
 {
     [
@@ -56,7 +54,7 @@ fn mux_numbers(m: Mux) -> [u64; MUX_ENTRIES]
 pub fn itz_mux_begin(record: &mut [u64]) -> u64
     ensures { left result «record».new [] [] ≡ begin_leaves «record».old }
 {
-    if record.len() < MUX_ENTRIES {
+    if record.len() < RECORD_ENTRIES {
         return ROOM;
     }
     put(record, &mux_numbers(multiplexer::begin()));
@@ -70,7 +68,7 @@ fn put_said(done: Result<Done, Refused>) -> [u64; 4]
 {
     match done {
         Err(Refused { refusal, damage }) => [number(refusal), 0, 0, damage_number(damage)],
-        Ok(Done { full, taken, .. }) => [0, u64::from(full), u64::from(taken), 0],
+        Ok(Done { full, taken, .. }) => [0, flag(full), flag(taken), 0],
     }
 }
 
@@ -103,12 +101,12 @@ pub fn itz_mux_put(
 ) -> u64
     ensures { left result «record».new frame.new answer.new ≡ mux_leaves (to_put packet.now) 3 put_numbers settings.now «record».old frame.old answer.old }
 {
+    if is_short(settings.len(), record.len(), answer.len(), PUT_ENTRIES) {
+        return ROOM;
+    }
     let (Some(settings), Some(mux)) = (settings_of(settings), mux_of(record)) else {
         return ROOM;
     };
-    if answer.len() < PUT_ENTRIES {
-        return ROOM;
-    }
     let done = multiplexer::put(settings, mux, packet, frame);
     let next = done.map_or(mux, |done| done.mux);
     leave(record, &mux_numbers(next), answer, &put_said(done))
@@ -123,12 +121,12 @@ pub fn itz_mux_flush(
 ) -> u64
     ensures { left result «record».new frame.new answer.new ≡ mux_leaves to_flush 1 flush_numbers settings.now «record».old frame.old answer.old }
 {
+    if is_short(settings.len(), record.len(), answer.len(), FLUSH_ENTRIES) {
+        return ROOM;
+    }
     let (Some(settings), Some(mux)) = (settings_of(settings), mux_of(record)) else {
         return ROOM;
     };
-    if answer.len() < FLUSH_ENTRIES {
-        return ROOM;
-    }
     let done = multiplexer::flush(settings, mux, frame);
     let next = done.map_or(mux, |done| done.mux);
     leave(record, &mux_numbers(next), answer, &flush_said(done))
@@ -138,14 +136,13 @@ pub fn itz_mux_flush(
 pub fn itz_mux_idle(settings: &[u64], record: &mut [u64], frame: &mut [u8]) -> u64
     ensures { left result «record».new frame.new [] ≡ mux_leaves to_idle 0 no_numbers settings.now «record».old frame.old [] }
 {
+    if is_short(settings.len(), record.len(), 0, 0) {
+        return ROOM;
+    }
     let (Some(settings), Some(mux)) = (settings_of(settings), mux_of(record)) else {
         return ROOM;
     };
-    match multiplexer::idle_zone(settings, mux, frame) {
-        Err(refusal) => number(refusal),
-        Ok(done) => {
-            put(record, &mux_numbers(done.mux));
-            0
-        }
-    }
+    let done = multiplexer::idle_zone(settings, mux, frame);
+    let next = done.map_or(mux, |done| done.mux);
+    keep(record, refusal_number(done), &mux_numbers(next))
 }

@@ -8,7 +8,7 @@ ghost use Rattle.exports.specs.Left.{left};
 ghost use Rattle.exports.specs.Packet.{kind_number, header_numbers, header_leaves, formed_leaves, wrap_numbers, wrap_leaves, unwrap_numbers, unwrap_leaves, unit_numbers, unit_leaves};
 
 use crate::lent::{ROOM, damage_number, number, tell};
-use arrays::{octet_of, put};
+use arrays::{flag, octet_of, put};
 use octets::{Refusal, within};
 use packets::{Header, Kind, Refused, Unit};
 
@@ -73,7 +73,7 @@ fn header_said(read: Result<Header, Refusal>) -> [u64; 8]
             0,
             WHOLE,
             kind_number(kind),
-            u64::from(idle),
+            flag(idle),
             key as u64,
             size as u64,
             total as u64,

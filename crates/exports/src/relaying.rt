@@ -5,8 +5,8 @@ ghost use Rattle.exports.specs.Left.{left};
 ghost use Rattle.exports.specs.Stated.{Stated};
 ghost use Rattle.exports.specs.Relaying.{entry_of, entries_of, table_of, table_numbers, wide, load_leaves, route_numbers, route_leaves};
 
-use crate::lent::{ROOM, damage_number, number, tell};
-use arrays::{entry, put};
+use crate::lent::{ROOM, damage_number, number, refusal_number, tell};
+use arrays::{entry, keep};
 use packets::Refused;
 use relay::{Entry, MOST_ENTRIES, Table};
 use std::array;
@@ -106,13 +106,8 @@ pub fn itz_relay_load(entries: &[u64], table: &mut [u64]) -> u64
         return SETTING;
     }
     let mut loaded = relay::empty();
-    match relay::load(&mut loaded, entries.len() / 2, entries_of(entries)) {
-        Err(refusal) => number(refusal),
-        Ok(()) => {
-            put(table, &table_numbers(loaded));
-            0
-        }
-    }
+    let answer = relay::load(&mut loaded, entries.len() / 2, entries_of(entries));
+    keep(table, refusal_number(answer), &table_numbers(loaded))
 }
 
 // An answer's refusal, and the numbers behind it.
@@ -137,12 +132,12 @@ pub fn itz_relay_route(
 ) -> u64
     ensures { left result [] destinations.new answer.new ≡ route_leaves limit table.now packet.now destinations.old answer.old }
 {
-    let Some(table) = table_of(table) else {
-        return ROOM;
-    };
     if answer.len() < ROUTED_ENTRIES {
         return ROOM;
     }
+    let Some(table) = table_of(table) else {
+        return ROOM;
+    };
     tell(
         answer,
         &routed_said(relay::route(limit as usize, table, packet, destinations)),

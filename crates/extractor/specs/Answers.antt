@@ -144,6 +144,11 @@ as_found (declared.Found.InStore size idle) = InStore size idle
 as_found (declared.Found.Damaged d) = Damaged (damage_number d)
 as_found declared.Found.Spent = Spent
 
+-- what a step found, or what it is refused for, in numbers
+abbrev pub found_or_refused : Result declared.Found Refusal → Found
+found_or_refused (Err refusal) = Refused (number_of refusal)
+found_or_refused (Ok found) = as_found found
+
 -- an answer, in numbers
 abbrev pub answered : Result Move Refusal → Found
 answered (Err refusal) = Refused (number_of refusal)

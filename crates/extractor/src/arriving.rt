@@ -61,7 +61,7 @@ impl Held<'_> {
             Seen::Damaged(damage) => Some(Reason::HeaderDamaged(damage)),
             Seen::More => compared(pointer == NO_START),
             Seen::Whole { total } => {
-                let end = total.saturating_sub(self.octets.len());
+                let end = octets::rest(total, self.octets.len());
                 compared(pointer == next_start(s.zone, end))
             }
         }

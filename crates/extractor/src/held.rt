@@ -75,7 +75,7 @@ pub(crate) fn at_hand(n: usize, length: Seen) -> Seen
 pub(crate) fn stated(s: Settings, x: Extractor, store: &[u8]) -> Seen
     ensures { Says s store.now (held_in x) result }
 {
-    let there = held_in(x).min(store.len());
+    let there = octets::least(held_in(x), store.len());
     packets::read_length(s.limit, &store[..there])
 }
 
@@ -124,7 +124,7 @@ fn length_in_both(limit: usize, held: &[u8], more: &[u8]) -> Seen
     ensures { seen result ≡ look limit (held.now ++ more.now) }
 {
     let n = held.len();
-    let to = n + more.len().min(MOST_HEADER - n);
+    let to = n + octets::least(more.len(), MOST_HEADER - n);
     let mut front = [0; MOST_HEADER];
     front[..n].copy_from_slice(held);
     front[n..to].copy_from_slice(&more[..to - n]);

@@ -5,7 +5,7 @@ ghost use Rattle.std.specs.Prelude.{◌≡◌, ℕ, List, []};
 ghost use Rattle.octets.specs.Basics.{first};
 ghost use Rattle.octets.specs.Refusals.{refusal_of};
 ghost use Rattle.extractor.specs.Records.{checked, held_in, step_rows, shown};
-ghost use Rattle.extractor.specs.Answers.{reason_number, enter_says, enter_answer, answered, step_says, step_answer};
+ghost use Rattle.extractor.specs.Answers.{reason_number, enter_says, enter_answer, found_or_refused, step_says, step_answer};
 ghost use Rattle.extractor.specs.Calls.{spend_says, spend_answer};
 ghost use Rattle.extractor.specs.Walks.{Says};
 
@@ -179,15 +179,15 @@ pub fn spend(
     Ok(walking::spent(s, x, stated, store, frame))
 }
 
-// The part of the frame or of the store that a step's answer names; an empty part where it names none.
+// The part of the frame or of the store that is named by what a step found; an empty part where it names none, or the step was refused.
 #[tactic(auto, unfolding(crate::specs::Records::shown))]
-pub fn show<'a>(frame: &'a [u8], store: &'a [u8], step: Result<Move, Refusal>) -> &'a [u8]
-    ensures { result.now ≡ shown frame.now store.now (answered step) }
+pub fn show<'a>(frame: &'a [u8], store: &'a [u8], found: Result<Found, Refusal>) -> &'a [u8]
+    ensures { result.now ≡ shown frame.now store.now (found_or_refused found) }
 {
-    let Ok(step) = step else {
+    let Ok(found) = found else {
         return &frame[..0];
     };
-    match step.found {
+    match found {
         Found::InFrame { start, size, .. } => octets::part(frame, start, size),
         Found::InStore { size, .. } => octets::part(store, 0, size),
         Found::Damaged(_) | Found::Spent => &frame[..0],

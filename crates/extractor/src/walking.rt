@@ -11,13 +11,13 @@ use crate::{Extractor, Found, Move};
 use frames::{Settings, ZONE_AT};
 use packets::{Damage, Seen};
 
-// The octets that are left of the zone join those held.
+// The octets that are left of the zone join those held; they fit, so that laying them is not refused.
 fn keep(last: u32, held: usize, store: &mut [u8], left: &[u8]) -> Move
     requires { held + length left.now ≤ length store.old }
     ensures { move_says result store.new ≡ kept_for_later store.old last held left.now }
 {
     let to = held + left.len();
-    store[held..to].copy_from_slice(left);
+    let _ = octets::lay(store, held, left, 0, left.len());
     Move {
         found: Found::Spent,
         next: Extractor::InStep { last, held: to },
@@ -64,7 +64,8 @@ fn walk(s: Settings, last: u32, at: usize, store: &mut [u8], frame: &[u8]) -> Mo
     }
 }
 
-// A step with octets held, before the zone: their packet is completed at their end, or all of the zone joins them.
+// A step with octets held, before the zone: their packet is completed at their end (its rest fits the store, so that laying it is not
+// refused), or all of the zone joins them.
 fn complete(
     s: Settings,
     last: u32,
@@ -87,9 +88,8 @@ fn complete(
         Seen::Damaged(damage) => abandoned(last, damage),
         Seen::More => keep(last, held, store, zone),
         Seen::Whole { total } => {
-            let rest = total.saturating_sub(held);
-            let end = held + rest;
-            store[held..end].copy_from_slice(&zone[..rest]);
+            let rest = octets::rest(total, held);
+            let _ = octets::lay(store, held, zone, 0, rest);
             let found = Found::InStore {
                 size: total,
                 idle: packets::is_idle(store),

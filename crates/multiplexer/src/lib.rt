@@ -178,7 +178,7 @@ fn lay_packet(s: Settings, m: Mux, p: &[u8], frame: &mut [u8]) -> Done
     ensures { left_by result frame.new ≡ put s m p.now frame.old }
 {
     let from = m.taken;
-    let n = (s.zone - m.filled).min(p.len() - from);
+    let n = octets::least(s.zone - m.filled, p.len() - from);
     octets::lay(frame, ZONE_AT + m.filled, p, from, from + n).unwrap();
     packet_laid(s, m, n, p.len(), frame)
 }
@@ -218,7 +218,7 @@ pub fn put(s: Settings, m: Mux, p: &[u8], frame: &mut [u8]) -> Result<Done, Refu
 {
     may_put(s, m, p, frame.len()).map_err(|refusal| Refused {
         refusal,
-        damage: packets::carried(refusal, s.limit, p),
+        damage: packets::carried(refusal.number(), s.limit, p),
     })?;
     Ok(lay_packet(s, m, p, frame))
 }

@@ -2,7 +2,7 @@
 #![tactic(auto)]
 
 ghost use Rattle.std.specs.Prelude.{◌*◌, ◌%◌, ◌^◌, ◌<◌, ◌≡◌, ◌+◌, ◌-◌, ◌≤◌, min, length, take, drop, get_or, replicate, leb};
-ghost use Rattle.octets.specs.Basics.{number, number_at, part_of, octets, fits, laid, part_fits, laid_part, Lays};
+ghost use Rattle.octets.specs.Basics.{number, number_at, part_of, octets, over, fits, laid, part_fits, laid_part, Lays};
 ghost use Rattle.octets.specs.Refusals.{refusal_of};
 
 pub mod limits;
@@ -68,6 +68,18 @@ pub fn put(buf: &mut [u8], at: usize, k: usize, n: u64) -> Result<(), Refusal>
     Ok(())
 }
 
+// Copies n octets of src from `from` over buf from `at`. By an index: `copy_from_slice` is the C library's memmove, and the library for C
+// needs that for nothing else.
+fn copy(buf: &mut [u8], at: usize, src: &[u8], from: usize, n: usize)
+    requires room { at + n ≤ length buf.old }
+    requires there { from + n ≤ length src.now }
+    ensures { buf.new ≡ over buf.old at (take n (drop from src.now)) }
+{
+    for i in 0..n {
+        buf[at + i] = src[from + i];
+    }
+}
+
 // Copies src[from..to] over buf from `at`; or nothing, where src has no such part or it does not fit. The part is named by its ends, as one
 // that src does not have is refused here.
 pub fn lay(buf: &mut [u8], at: usize, src: &[u8], from: usize, to: usize) -> Result<(), Refusal>
@@ -82,8 +94,7 @@ pub fn lay(buf: &mut [u8], at: usize, src: &[u8], from: usize, to: usize) -> Res
     if !within(buf.len(), at, to - from) {
         return Err(Refusal::Room);
     }
-    let end = at + (to - from);
-    buf[at..end].copy_from_slice(&src[from..to]);
+    copy(buf, at, src, from, to - from);
     Ok(())
 }
 

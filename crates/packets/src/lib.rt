@@ -3,13 +3,12 @@
 
 ghost use Rattle.std.specs.Prelude.{◌≡◌, ◌/◌, ◌≤◌, length, get_or, Ok};
 ghost use Rattle.octets.specs.Basics.{and, number_at};
-ghost use Rattle.octets.specs.Refusals.{number_of};
 ghost use Rattle.words.specs.Fields.{read};
 ghost use Rattle.packets.specs.Packet.{whole, limit_in_range, apid, OfAKind, packet_version, protocol_of, length_of_length, header_length, sized, encapsulation, look, damage_in, carried, is_idle, well_formed};
 ghost use Rattle.packets.specs.Damage.{damage_or_0};
 ghost use Rattle.packets.specs.Header.{seen, told, reading, answer};
 
-use octets::{Refusal, limits};
+use octets::{Refusal, limits, refusals};
 use words::Place;
 
 mod damage;
@@ -46,7 +45,7 @@ const IDLE_APID: u64 = 2047;
 const IDLE_PROTOCOL: u8 = 0;
 
 // The greatest length-of-length: both of its bits are 1.
-const MOST_CODE: u8 = 3;
+const MOST_CODE: usize = 3;
 
 // The protocol that the extension names further: its headers have one.
 pub const EXTENDED_PROTOCOL: u8 = 6;
@@ -101,7 +100,7 @@ pub fn in_range(limit: usize) -> bool
 pub fn header_length(code: u8) -> usize
     ensures { result ≡ header_length code }
 {
-    1 << code.min(MOST_CODE)
+    1 << octets::least(code as usize, MOST_CODE)
 }
 
 // A header of `size` octets is whole and states `total`.
@@ -216,12 +215,13 @@ pub fn damage_in(found: Seen) -> Option<Damage>
     }
 }
 
-// What a refusal says of the packet that was lent: `Packet` what is wrong with its header, and any other nothing.
+// What a refusal's number says of the packet that was lent: that of `Packet` what is wrong with its header, and any other nothing. (The
+// theorem OfPackets of demands has it for every number, also for those of no refusal.)
 #[tactic(auto, unfolding(crate::specs::Packet::carried))]
-pub fn carried(refusal: Refusal, limit: usize, p: &[u8]) -> Option<Damage>
-    ensures { damage_or_0 result ≡ carried (number_of refusal) limit p.now }
+pub fn carried(refusal: u8, limit: usize, p: &[u8]) -> Option<Damage>
+    ensures { damage_or_0 result ≡ carried refusal limit p.now }
 {
-    if refusal != Refusal::Packet {
+    if refusal != refusals::PACKET {
         return None;
     }
     damage_in(read_length(limit, p))
@@ -276,12 +276,12 @@ pub fn read_header(limit: usize, start: &[u8]) -> Result<Header, Refusal>
     })
 }
 
-// What is wrong with a header that was read.
+// What is wrong with a header, by what its reader answers.
 #[tactic(auto, unfolding(crate::specs::Header::answer))]
-pub fn header_damage(header: Header) -> Option<Damage>
-    ensures { damage_or_0 result ≡ (answer (Ok header)).damage }
+pub fn header_damage(header: Result<Header, Refusal>) -> Option<Damage>
+    ensures { damage_or_0 result ≡ (answer header).damage }
 {
-    let Header::Damaged(damage) = header else {
+    let Ok(Header::Damaged(damage)) = header else {
         return None;
     };
     Some(damage)

@@ -65,14 +65,14 @@ pub fn unwrap(limit: usize, p: &[u8]) -> Result<Unit, Refused>
 {
     may_unwrap(limit, p).map_err(|refusal| Refused {
         refusal,
-        damage: carried(refusal, limit, p),
+        damage: carried(refusal.number(), limit, p),
     })?;
     let start = header_length(length_of_length(p));
     Ok(Unit {
         protocol: protocol(p),
         extension: extension(p),
         start,
-        size: p.len().saturating_sub(start),
+        size: octets::rest(p.len(), start),
     })
 }
 

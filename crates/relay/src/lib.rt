@@ -173,7 +173,7 @@ fn by_header(
     else {
         return Err(Refused {
             refusal: Refusal::Packet,
-            damage: packets::header_damage(header),
+            damage: packets::header_damage(Ok(header)),
         });
     };
     if total != packet.len() {

@@ -75,7 +75,8 @@ impl Receiver {
         frame: &[u8],
         step: Result<Move, Refusal>,
     ) -> io::Result<()> {
-        match step.map(|step| step.found) {
+        let found = step.map(|step| step.found);
+        match found {
             Ok(Found::Spent) => Ok(()),
             Err(refusal) => {
                 print!(rt; ";")?;
@@ -87,7 +88,7 @@ impl Receiver {
             }
             Ok(Found::InFrame { .. } | Found::InStore { .. }) => {
                 print!(rt; ";")?;
-                handed(rt, limit, extractor::show(frame, &self.store, step))
+                handed(rt, limit, extractor::show(frame, &self.store, found))
             }
         }
     }

@@ -1,9 +1,13 @@
 // A text: read whole, and its parts.
+ghost use Rattle.std.specs.Prelude.{◌≤◌, length, IfOk};
+
 use std::io;
 use std::io::Read;
 
 // Reads until the room is full or the input ends, as a read gives a part: what it put at the front.
-pub(crate) fn read<'a>(input: &mut impl Read, room: &'a mut [u8]) -> io::Result<&'a [u8]> {
+pub(crate) fn read<'a>(input: &mut impl Read, room: &'a mut [u8]) -> io::Result<&'a [u8]>
+    ensures { IfOk result (λ text. length text.now ≤ length room.old) }
+{
     let mut done = 0;
     while done < room.len() {
         let n = input.read(&mut room[done..])?;

@@ -89,7 +89,7 @@ pub fn write_idle(out: &mut [u8], at: usize, r: usize, fill: u8) -> Result<(), R
     ensures value { refusal_of result ≡ first (idle_packet_rows r (length out.old - at)) }
     ensures out_after { out.new ≡ pick (eqb (refusal_of result) 0) (over out.old at (idle_packet fill r)) out.old }
 {
-    may_write_idle(r, out.len().saturating_sub(at))?;
+    may_write_idle(r, octets::rest(out.len(), at))?;
     let front = Front {
         protocol: 0,
         extension: 0,

@@ -83,7 +83,7 @@ of_extractor = record {
             left_same o o' same.0 same.1;
       });
   record_refusal = λ κs s x store. record { free = tt; gives = λ r m. m; one = λ r r' p q. same_refusal r r' (p ∙ sym q) };
-  show = λ κs f store step part. exactly;
+  show = λ κs f store found part. exactly;
   keeps = keeps_to_the_test;
   exact = reaches_all;
   exceptions = exceptions;

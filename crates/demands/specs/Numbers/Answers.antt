@@ -13,7 +13,7 @@ use Rattle.packets.specs.declared.damage.Damage.{Damage}
 use Rattle.space.specs.Space.{space_reads, space_writes}
 use Rattle.multiplexer.specs.Calls.{answers, answers_alone}
 use Rattle.extractor.specs.Records.{shown}
-use Rattle.extractor.specs.Answers.{EnterNumbers, enter_says, StepNumbers, found_numbers, as_found, answered, step_says}
+use Rattle.extractor.specs.Answers.{EnterNumbers, enter_says, StepNumbers, found_numbers, as_found, found_or_refused, answered, step_says}
 use Rattle.extractor.specs.Calls.{spends_to, spend_says}
 use Rattle.extractor.specs.declared.Extractor.{Extractor}
 use Rattle.extractor.specs.declared.Extractor.TheVariants.{Fresh, Walking, Leaving}
@@ -77,13 +77,8 @@ pub record Cases : Type 0 where
       ≡ found 0 1 2 0 2 (4 ∷ 5 ∷ []) ∷ found 0 2 2 0 2 (4 ∷ 5 ∷ []) ∷ found 0 1 2 0 4 [] ∷ []
   pub no_part : map of_three (Found.Damaged Damage.Version ∷ Found.Damaged Damage.OverLimit ∷ Found.Spent ∷ []) ≡ torn 1 ∷ torn 4 ∷ found 0 4 0 0 0 [] ∷ []
   -- the part that is shown of that frame and that store
-  pub shows : map (λ (r : Result Move Refusal). shown (1 ∷ 2 ∷ 3 ∷ []) (4 ∷ 5 ∷ 6 ∷ []) (answered r))
-      (steps (Found.InFrame 1 2 false) Fresh
-      ∷ steps (Found.InStore 2 true) Fresh
-      ∷ Err Refusal.Moment
-      ∷ steps (Found.Damaged Damage.Version) Fresh
-      ∷ steps Found.Spent Fresh
-      ∷ [])
+  pub shows : map (λ (r : Result Found Refusal). shown (1 ∷ 2 ∷ 3 ∷ []) (4 ∷ 5 ∷ 6 ∷ []) (found_or_refused r))
+      (Ok (Found.InFrame 1 2 false) ∷ Ok (Found.InStore 2 true) ∷ Err Refusal.Moment ∷ Ok (Found.Damaged Damage.Version) ∷ Ok Found.Spent ∷ [])
       ≡ (2 ∷ 3 ∷ []) ∷ (4 ∷ 5 ∷ []) ∷ [] ∷ [] ∷ [] ∷ []
   pub closing : map close_says (Err Refusal.Record ∷ Ok Verdict.Pass ∷ Ok (Verdict.Fault 5) ∷ [])
       ≡ record { accepted = false; refusal = 10; passes = false; at = 0 }

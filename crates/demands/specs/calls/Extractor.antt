@@ -7,12 +7,13 @@ use Rattle.octets.specs.Refusals.{refusal_of}
 use Rattle.octets.specs.declared.refusals.Refusal.{Refusal}
 use Rattle.frames.specs.declared.Settings.{Settings}
 use Rattle.extractor.specs.Records.{checked, enter_rows, step_rows, shown}
-use Rattle.extractor.specs.Answers.{reason_number, refused_enter, enter_says, enter_answer, refused_step, answered, step_says, step_answer}
+use Rattle.extractor.specs.Answers.{reason_number, refused_enter, enter_says, enter_answer, refused_step, found_or_refused, step_says, step_answer}
 use Rattle.extractor.specs.Calls.{spends_to, spend_says, spend_answer}
 use Rattle.extractor.specs.Statements.{KeepsToTheTest, ReachesAll, Exceptions}
 use Rattle.extractor.specs.declared.Extractor.{Extractor}
 use Rattle.extractor.specs.declared.Reason.{Reason}
 use Rattle.extractor.specs.declared.Entering.{Entering}
+use Rattle.extractor.specs.declared.Found.{Found}
 use Rattle.extractor.specs.declared.Move.{Move}
 use Rattle.extractor.proofs.Reason.number.Reads as reason_number_fn
 use Rattle.extractor.proofs.record_refusal.Reads as record_refusal_fn
@@ -47,9 +48,9 @@ pub record OfExtractor : Type 0 where
       (spend_answer s x store.now f.now) (step_rows s x store.now f.now)
       (λ o. spend_says x o.answer o.lent) (λ a. a.refusal) (λ n. spends_to n x store.now)
   -- a part that is handed back lies somewhere: an outcome is its octets
-  pub show : (κs : Lfts 1) (f store : Slice) (step : Result Move Refusal) (part : Slice)
-      → Is (as_read (show_fn.Pre κs (f, (store, (step, tt)))) (λ r. show_fn.Post κs (f, (store, (step, tt))) (lying part r) (f, (store, (step, tt)))))
-      (shown f.now store.now (answered step))
+  pub show : (κs : Lfts 1) (f store : Slice) (found : Result Found Refusal) (part : Slice)
+      → Is (as_read (show_fn.Pre κs (f, (store, (found, tt)))) (λ r. show_fn.Post κs (f, (store, (found, tt))) (lying part r) (f, (store, (found, tt)))))
+      (shown f.now store.now (found_or_refused found))
   pub keeps : KeepsToTheTest
   pub exact : ReachesAll
   pub exceptions : Exceptions

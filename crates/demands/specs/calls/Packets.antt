@@ -1,8 +1,7 @@
 -- What the public functions of `packets` promise.
-use Rattle.std.specs.Prelude.{ℕ, ◌≡◌, List, [], ◌∷◌, false, not, Option, Result, Ok, Err}
+use Rattle.std.specs.Prelude.{ℕ, ◌≡◌, List, [], ◌∷◌, false, not, Option, Result, Err}
 use contract.Lifetimes.{Lfts}
 use Rattle.octets.specs.Basics.{and, row}
-use Rattle.octets.specs.Refusals.{number_of}
 use Rattle.octets.specs.declared.refusals.Refusal.{Refusal}
 use Rattle.packets.specs.Packet.{limit_in_range, header_length, look, damage_in, carried, is_idle, well_formed}
 use Rattle.packets.specs.Damage.{damage_number, damage_or_0}
@@ -50,8 +49,8 @@ pub record OfPackets : Type 0 where
       seen (look limit os.now)
   pub damage_in : (found : Seen)
       → Tells (as_read (damage_in_fn.Pre tt (found, tt)) (λ r. damage_in_fn.Post tt (found, tt) r (found, tt))) (damage_in (seen found))
-  pub header_damage : (h : Header)
-      → Tells (as_read (header_damage_fn.Pre tt (h, tt)) (λ r. header_damage_fn.Post tt (h, tt) r (h, tt))) (header.answer (Ok h)).damage
+  pub header_damage : (h : Result Header Refusal)
+      → Tells (as_read (header_damage_fn.Pre tt (h, tt)) (λ r. header_damage_fn.Post tt (h, tt) r (h, tt))) (header.answer h).damage
   pub is_idle : (κs : Lfts 1) (os : Slice)
       → Is (as_read (is_idle_fn.Pre κs (os, tt)) (λ r. is_idle_fn.Post κs (os, tt) r (os, tt))) (is_idle os.now)
   pub header_length : (code : ℕ)
@@ -67,6 +66,6 @@ pub record OfPackets : Type 0 where
   -- a part that is handed back lies somewhere: an outcome is its octets
   pub unit_part : (κs : Lfts 1) (p : Slice) (u : Unwrapped) (part : Slice)
       → Is (as_read (unit_part_fn.Pre κs (p, (u, tt))) (λ r. unit_part_fn.Post κs (p, (u, tt)) (lying part r) (p, (u, tt)))) (unit_part p.now u)
-  pub carried : (κs : Lfts 1) (refusal : Refusal) (limit : ℕ) (p : Slice)
+  pub carried : (κs : Lfts 1) (refusal limit : ℕ) (p : Slice)
       → Tells (as_read (carried_fn.Pre κs (refusal, (limit, (p, tt)))) (λ r. carried_fn.Post κs (refusal, (limit, (p, tt))) r (refusal, (limit, (p, tt)))))
-      (carried (number_of refusal) limit p.now)
+      (carried refusal limit p.now)

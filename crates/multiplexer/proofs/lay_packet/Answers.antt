@@ -31,9 +31,9 @@ unfolding fits_now
 returns c =
     let a = c.args in
     let w = put_passed _ _ _ _ c.requires in
-    let inside : a.m.filled + c.min-n.result ≤ a.s.zone = omega arith in
-    let part : a.m.taken + c.min-n.result ≤ length a.p.now = omega arith in
-    c.packet_laid.ensures a.p.now a.frame.now refl c.min-n.ensures
+    let inside : a.m.filled + c.least-n.result ≤ a.s.zone = omega arith in
+    let part : a.m.taken + c.least-n.result ≤ length a.p.now = omega arith in
+    c.packet_laid.ensures a.p.now a.frame.now refl c.least-n.ensures
     (part_laid_in a.frame.now w.0 a.p.now a.m.taken _ part inside c.lay.ensures.left)
 
 pub unwrap-requires : goal.unwrap-requires
@@ -42,7 +42,7 @@ unwrap-requires c =
     let a = c.args in
     let w = put_passed _ _ _ _ c.requires in
     let from = a.m.taken in
-    let to : ℕ = from + c.min-n.result in
+    let to : ℕ = from + c.least-n.result in
     let at : ℕ = 8 + a.m.filled in
     let fits : at + (to - from) ≤ length a.frame.now = omega (arith, w.0.lent.enough) in
     accepted c.lay.result c.lay.ensures.answer

@@ -22,5 +22,5 @@ returns-then-not-within c =
 pub returns : goal.returns
 returns c =
     let a = c.args in
-    a_part a.buf.now a.at a.from a.to a.src.now c.copy_from_slice.new.self c.if-to-from.false c.if-src-to.false
-    (sym c.within.ensures ∙ c.if-not-within.false) c.copy_from_slice.ensures.after
+    a_part a.buf.now a.at a.from a.to a.src.now _ c.if-to-from.false c.if-src-to.false (sym c.within.ensures ∙ c.if-not-within.false)
+    c.copy.ensures

@@ -16,5 +16,5 @@ doubled (suc (suc (suc n))) =
 
 pub returns : goal.returns
 returns c =
-    let often : c.min.result ≡ min c.args.code 3 = omega (arith, c.min.ensures) in
-    one_up 64 c.min.result (omega (arith, often)) ∙ ap (λ (d : ℕ). 2 ^ d) often ∙ doubled c.args.code
+    let often : c.least.result ≡ min c.args.code 3 = omega (arith, c.least.ensures) in
+    one_up 64 c.least.result (omega (arith, often)) ∙ ap (λ (d : ℕ). 2 ^ d) often ∙ doubled c.args.code

@@ -11,6 +11,6 @@ returns c =
     let least = c.requires.limit_least in
     c.read_length.ensures
     ∙ ap (look a.limit)
-    (started (replicate 8 0) a.held.now a.more.now _ _ c.min.result _ refl c.requires.held_most c.copy_from_slice.ensures.after c.min.ensures
+    (started (replicate 8 0) a.held.now a.more.now _ _ c.least.result _ refl c.requires.held_most c.copy_from_slice.ensures.after c.least.ensures
     (c.copy_from_slice-2.ensures.after ∙ ap (λ (i : ℕ). take i a.more.now) (omega arith)))
     ∙ look_front a.limit _ least

@@ -1,9 +1,8 @@
 -- At each return what is at hand says which case of the definition holds.
-use Rattle.std.proofs.Common.{◌≡◌, ℕ, List, ◌-◌, length, take, sym, ap, ◌∙◌, arith, length-take-le}
-use Rattle.octets.proofs.Written.{length_run}
-use Rattle.frames.proofs.Settled.{settled}
+use Rattle.std.proofs.Common.{ℕ, List, take, ap, ◌∙◌, arith}
+use Rattle.octets.specs.Basics.{over}
 use Rattle.extractor.proofs.Parts.{written_over}
-use Rattle.extractor.proofs.Steps.{left, plain, length-left, whole_limit, laid_fits, step_torn, step_kept, kept_room, whole_there, step_laid}
+use Rattle.extractor.proofs.Steps.{left, plain, length-left, laid_fits, step_torn, step_kept, kept_room, whole_there, step_laid}
 use Rattle.extractor.proofs.walking.complete.Goals as goal
 
 pub overflow_add-zone : goal.overflow_add-zone
@@ -28,34 +27,6 @@ keep-requires c =
     let r = kept_room w c.args.last _ c.across.ensures (omega arith) c.at_hand.ensures c.in-More.is in
     omega (arith, n, r)
 
-pub overflow_add-end : goal.overflow_add-end
-overflow_add-end c =
-    let w = c.requires.walks.0 in
-    let (e, k) = whole_there w c.args.last _ c.across.ensures (omega arith) c.at_hand.ensures c.in-Whole.is in
-    omega (arith, whole_limit w c.args.last _ c.across.ensures e, (settled c.args.s w.ranged).limit_most)
-
-pub slice_bounds-copy_from_slice-end : goal.slice_bounds-copy_from_slice-end
-slice_bounds-copy_from_slice-end c =
-    let w = c.requires.walks.0 in
-    let (e, k) = whole_there w c.args.last _ c.across.ensures (omega arith) c.at_hand.ensures c.in-Whole.is in
-    omega (arith, laid_fits w c.args.last _ c.across.ensures e k)
-
-pub slice_bounds-copy_from_slice-end-in-Whole : goal.slice_bounds-copy_from_slice-end-in-Whole
-slice_bounds-copy_from_slice-end-in-Whole c =
-    let w = c.requires.walks.0 in
-    let (e, k) = whole_there w c.args.last _ c.across.ensures (omega arith) c.at_hand.ensures c.in-Whole.is in
-    sym (length-take-le _ _ (omega (arith, laid_fits w c.args.last _ c.across.ensures e k)))
-
-pub copy_from_slice-requires : goal.copy_from_slice-requires
-copy_from_slice-requires c =
-    let a = c.args in
-    let w = c.requires.walks.0 in
-    let (e, k) = whole_there w a.last _ c.across.ensures (omega arith) c.at_hand.ensures c.in-Whole.is in
-    let fits = laid_fits w a.last _ c.across.ensures e k in
-    let rest = c.saturating_sub-rest.result in
-    length_run a.store.now a.held _ (omega (arith, fits))
-    ∙ sym (length-take-le rest (left a.s 0 a.frame.now) (omega (arith, fits)) ∙ omega arith)
-
 pub returns-in-Damaged : goal.returns-in-Damaged
 returns-in-Damaged c =
     rw (c.abandoned.ensures.0, c.abandoned.ensures.1)
@@ -71,10 +42,8 @@ returns-in-Whole c =
     let w = c.requires.walks.0 in
     let (e, k) = whole_there w a.last _ c.across.ensures (omega arith) c.at_hand.ensures c.in-Whole.is in
     let fits = laid_fits w a.last _ c.across.ensures e k in
-    let rest : ℕ = c.in-Whole.total - a.held in
     let zone : List ℕ = left a.s 0 a.frame.now in
-    let long : length (take rest zone) ≡ rest = length-take-le rest zone fits.0 in
-    let copied = c.copy_from_slice.ensures.after ∙ ap (λ (n : ℕ). take n zone) c.saturating_sub-rest.ensures in
+    let copied = written_over a.store.now a.held c.rest-rest.result zone _ c.lay.ensures.left (omega (arith, fits, c.rest-rest.ensures)) (omega (arith, fits, c.rest-rest.ensures)) in
     rw c.onward-next.ensures
-    (step_laid w a.last _ c.across.ensures e k _ _ _ c.requires.walks.1 (omega arith)
-    (written_over a.store.now a.held _ (take rest zone) _ copied (omega arith)) c.is_idle.ensures)
+    (step_laid w a.last _ c.across.ensures e k _ _ _ c.requires.walks.1 (omega (arith, c.rest-rest.ensures))
+    (copied ∙ ap (λ (n : ℕ). over a.store.now a.held (take n zone)) c.rest-rest.ensures) c.is_idle.ensures)
