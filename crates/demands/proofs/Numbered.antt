@@ -378,6 +378,7 @@ answers = record {
   in_store = refl;
   no_part = refl;
   shows = refl;
+  shows_found = refl;
   closing = refl;
   headers = refl;
   refused_header = refl;

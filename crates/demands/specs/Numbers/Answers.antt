@@ -76,8 +76,16 @@ pub record Cases : Type 0 where
   pub in_store : map of_three (Found.InStore 2 false ∷ Found.InStore 2 true ∷ Found.InStore 4 false ∷ [])
       ≡ found 0 1 2 0 2 (4 ∷ 5 ∷ []) ∷ found 0 2 2 0 2 (4 ∷ 5 ∷ []) ∷ found 0 1 2 0 4 [] ∷ []
   pub no_part : map of_three (Found.Damaged Damage.Version ∷ Found.Damaged Damage.OverLimit ∷ Found.Spent ∷ []) ≡ torn 1 ∷ torn 4 ∷ found 0 4 0 0 0 [] ∷ []
-  -- the part that is shown of that frame and that store
-  pub shows : map (λ (r : Result Found Refusal). shown (1 ∷ 2 ∷ 3 ∷ []) (4 ∷ 5 ∷ 6 ∷ []) (found_or_refused r))
+  -- the part of that frame and that store that is shown of a step's answer, and of what the step found
+  pub shows : map (λ (r : Result Move Refusal). shown (1 ∷ 2 ∷ 3 ∷ []) (4 ∷ 5 ∷ 6 ∷ []) (answered r))
+      (steps (Found.InFrame 1 2 false) Fresh
+      ∷ steps (Found.InStore 2 true) Fresh
+      ∷ Err Refusal.Moment
+      ∷ steps (Found.Damaged Damage.Version) Fresh
+      ∷ steps Found.Spent Fresh
+      ∷ [])
+      ≡ (2 ∷ 3 ∷ []) ∷ (4 ∷ 5 ∷ []) ∷ [] ∷ [] ∷ [] ∷ []
+  pub shows_found : map (λ (r : Result Found Refusal). shown (1 ∷ 2 ∷ 3 ∷ []) (4 ∷ 5 ∷ 6 ∷ []) (found_or_refused r))
       (Ok (Found.InFrame 1 2 false) ∷ Ok (Found.InStore 2 true) ∷ Err Refusal.Moment ∷ Ok (Found.Damaged Damage.Version) ∷ Ok Found.Spent ∷ [])
       ≡ (2 ∷ 3 ∷ []) ∷ (4 ∷ 5 ∷ []) ∷ [] ∷ [] ∷ [] ∷ []
   pub closing : map close_says (Err Refusal.Record ∷ Ok Verdict.Pass ∷ Ok (Verdict.Fault 5) ∷ [])
